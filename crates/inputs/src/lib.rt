@@ -1,0 +1,61 @@
+// Tests of inputs that several calls share.
+ghost use mathlib.Core.Path.{_≡_};
+ghost use Prim.Native.Nat.{max};
+ghost use Rattle.model.specs.Lists.{atMost, bit};
+ghost use Rattle.model.specs.Encoding.{unfrozen, isUnfrozen};
+ghost use Rattle.model.specs.Refusals.{exponent};
+
+// The exponent of a power of two from 2 to 1024, and 0 for any other number.
+pub fn exponent_of(n: usize) -> usize
+    ensures { λ r. ⌜ r ≡ exponent n ⌝ }
+{
+    let mut t: usize = 10;
+    let mut power: usize = 1024;
+    while 0 < t {
+        if n == power {
+            return t;
+        }
+        t -= 1;
+        power /= 2;
+    }
+    0
+}
+
+fn larger(a: u8, b: u8) -> u8
+    ensures { λ r. ⌜ r ≡ max a b ⌝ }
+{
+    if a < b { b } else { a }
+}
+
+// Whether no byte is above top.
+pub fn at_most(bytes: &[u8], top: u8) -> bool
+    ensures { λ r. ⌜ r ≡ atMost top (now (bytes .entry)) ⌝ }
+{
+    let mut most: u8 = 0;
+    let mut i = 0;
+    while i < bytes.len() {
+        most = larger(most, bytes[i]);
+        i += 1;
+    }
+    most <= top
+}
+
+// 1 for an unfrozen position, 0 for a frozen one.
+fn counted(byte: u8) -> usize
+    ensures { λ r. ⌜ r ≡ bit (isUnfrozen byte) ⌝ }
+{
+    if byte == 0 { 1 } else { 0 }
+}
+
+// K, the number of unfrozen positions of a mask.
+pub fn unfrozen_of(mask: &[u8]) -> usize
+    ensures { λ r. ⌜ r ≡ unfrozen (now (mask .entry)) ⌝ }
+{
+    let mut k: usize = 0;
+    let mut i = 0;
+    while i < mask.len() {
+        k += counted(mask[i]);
+        i += 1;
+    }
+    k
+}

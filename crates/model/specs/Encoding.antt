@@ -1,0 +1,65 @@
+-- Encoding: the polar matrix, the transform, and the payload's places. Assumes nothing.
+use Prim.Native.Nat.{ℕ, zero, suc, _+_, _*_, _/_, _%_, _^_}
+use mathlib.Core.Bool.{Bool, true, false, cond, _&&_}
+use mathlib.Core.List.{List, [], _∷_}
+use lib.Dec.{eqb}
+use lib.ListN.{getD, drop}
+use Rattle.model.specs.Lists.{tabulate, total, bit}
+
+-- the sum of two bits
+infixl 60 _⊕_
+abbrev pub _⊕_ : ℕ → ℕ → ℕ
+a ⊕ b = (a + b) % 2
+
+-- a matrix by its entry at row i and column j
+abbrev pub Matrix : Type 0
+Matrix = ℕ → ℕ → ℕ
+
+-- the rows (1 0), (1 1)
+unfoldable pub kernel : Matrix
+kernel i j = getD (getD ((1 ∷ 0 ∷ []) ∷ (1 ∷ 1 ∷ []) ∷ []) i []) j 0
+
+-- the Kronecker product of A and a matrix B of m rows and m columns
+unfoldable pub kronecker : ℕ → Matrix → Matrix → Matrix
+kronecker m A B i j = A (i / m) (j / m) * B (i % m) (j % m)
+
+-- the n-fold Kronecker power of the kernel, natural order
+unfoldable pub polarMatrix : ℕ → Matrix
+polarMatrix zero = λ i j. 1
+polarMatrix (suc n) = kronecker (2 ^ n) kernel (polarMatrix n)
+
+-- u times a matrix of m rows and m columns, over bits
+unfoldable pub times : ℕ → List ℕ → Matrix → List ℕ
+times m u A = tabulate m (λ j. total _+_ 0 m (λ i. getD u i 0 * A i j) % 2)
+
+-- the transform of u
+unfoldable pub transform : ℕ → List ℕ → List ℕ
+transform n u = times (2 ^ n) u (polarMatrix n)
+
+-- a mask byte: 1 frozen, 0 unfrozen
+abbrev pub isUnfrozen : ℕ → Bool
+isUnfrozen m = eqb m 0
+
+-- K, the number of unfrozen positions
+unfoldable pub unfrozen : List ℕ → ℕ
+unfrozen [] = 0
+unfrozen (m ∷ mask) = bit (isUnfrozen m) + unfrozen mask
+
+-- payload bits go to the unfrozen positions in rising order, zeros elsewhere
+unfoldable pub place : List ℕ → List ℕ → List ℕ
+place [] bits = []
+place (m ∷ mask) bits = cond (isUnfrozen m) (getD bits 0 0 ∷ place mask (drop 1 bits)) (0 ∷ place mask bits)
+
+-- the unfrozen bits of u
+unfoldable pub payloadOf : List ℕ → List ℕ → List ℕ
+payloadOf [] u = []
+payloadOf (m ∷ mask) u = let rest : List ℕ = payloadOf mask (drop 1 u) in cond (isUnfrozen m) (getD u 0 0 ∷ rest) rest
+
+-- whether the frozen bits of u are all 0
+unfoldable pub frozenZero : List ℕ → List ℕ → Bool
+frozenZero [] u = true
+frozenZero (m ∷ mask) u = cond (isUnfrozen m) true (eqb (getD u 0 0) 0) && frozenZero mask (drop 1 u)
+
+-- the word of a payload
+unfoldable pub encode : ℕ → List ℕ → List ℕ → List ℕ
+encode n mask payload = transform n (place mask payload)

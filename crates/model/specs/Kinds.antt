@@ -1,0 +1,84 @@
+-- Kinds of node: the table, a column a definition. Assumes nothing.
+use Prim.Native.Nat.{ℕ, zero, suc, _-_, _%_}
+use mathlib.Core.Bool.{Bool, true, false, cond, not, _&&_}
+use mathlib.Core.Option.{Option, none, some}
+use mathlib.Core.List.{List, [], _∷_, _++_}
+use lib.Dec.{eqb, leb}
+use lib.ListN.{replicate}
+use Rattle.model.specs.Lists.{tabulate, total, same}
+use Rattle.model.specs.Soft.{Soft, certain, softZero, _at_, box, plus}
+
+pub data Kind : Type 0 where
+  rate-0 rate-1 REP SPC type-I type-III : Kind
+
+-- the table's order
+abbrev pub order : List Kind
+order = rate-0 ∷ rate-1 ∷ REP ∷ SPC ∷ type-I ∷ type-III ∷ []
+
+-- all frozen but the last s, of m
+abbrev pub butLast : ℕ → ℕ → List ℕ
+butLast s m = replicate (m - s) 1 ++ replicate s 0
+
+-- only the first s frozen, of m
+abbrev pub onlyFirst : ℕ → ℕ → List ℕ
+onlyFirst s m = replicate s 1 ++ replicate (m - s) 0
+
+-- column "pattern": the mask of a node of size m
+abbrev pub pattern : Kind → ℕ → List ℕ
+pattern rate-0 m = replicate m 1
+pattern rate-1 m = replicate m 0
+pattern REP m = butLast 1 m
+pattern SPC m = onlyFirst 1 m
+pattern type-I m = butLast 2 m
+pattern type-III m = onlyFirst 2 m
+
+-- column "size": the least
+abbrev pub leastSize : Kind → ℕ
+leastSize rate-0 = 1
+leastSize rate-1 = 1
+leastSize REP = 2
+leastSize SPC = 2
+leastSize type-I = 4
+leastSize type-III = 4
+
+-- an operation over the other incoming values at places that are equal modulo s; e is its value over none
+unfoldable pub others : (Soft → Soft → Soft) → Soft → ℕ → ℕ → List Soft → ℕ → Soft
+others op e s m L k = total op e m (λ j. cond (eqb (j % s) (k % s) && not (eqb j k)) (L at j) e)
+
+-- column "message of the node", for size m and the incoming list L
+unfoldable pub shortcut : Kind → ℕ → List Soft → List Soft
+shortcut rate-0 m L = tabulate m (λ k. certain)
+shortcut rate-1 m L = tabulate m (λ k. softZero)
+shortcut REP m L = tabulate m (others plus softZero 1 m L)
+shortcut SPC m L = tabulate m (others box certain 1 m L)
+shortcut type-I m L = tabulate m (others plus softZero 2 m L)
+shortcut type-III m L = tabulate m (others box certain 2 m L)
+
+-- whether a node of size m with its part of the mask is of a kind
+abbrev pub fits : ℕ → List ℕ → Kind → Bool
+fits m mask k = leb (leastSize k) m && same mask (pattern k m)
+
+unfoldable pub firstOf : (Kind → Bool) → List Kind → Option Kind
+firstOf f [] = none
+firstOf f (k ∷ ks) = cond (f k) (some k) (firstOf f ks)
+
+-- the kind of a node: the upper one where two fit
+unfoldable pub kindOf : ℕ → List ℕ → Option Kind
+kindOf m mask = firstOf (fits m mask) order
+
+abbrev pub isSome : Option Kind → Bool
+isSome none = false
+isSome (some k) = true
+
+-- the place of a kind in the table's order
+abbrev pub row : Kind → ℕ
+row rate-0 = 0
+row rate-1 = 1
+row REP = 2
+row SPC = 3
+row type-I = 4
+row type-III = 5
+
+abbrev pub isKind : Kind → Option Kind → Bool
+isKind k none = false
+isKind k (some j) = eqb (row k) (row j)

@@ -1,0 +1,151 @@
+-- Plans, the walk that follows one, cycles, the planner. A node is given by its stage t, its number p and its part of the mask. Assumes nothing.
+use Prim.Native.Nat.{ℕ, zero, suc, _+_, _*_, _-_, _^_}
+use mathlib.Core.Bool.{Bool, true, false, cond, _&&_, not}
+use mathlib.Core.Option.{Option, none, some}
+use mathlib.Core.List.{List, [], _∷_, _++_, map}
+use lib.Dec.{eqb, ltb, T}
+use lib.ListN.{getD, take, drop, length}
+use Rattle.model.specs.Lists.{tabulate, every, atMost, bit}
+use Rattle.model.specs.Soft.{Soft}
+use Rattle.model.specs.Scan.{Tree, leaf, node, message, left, right, toLeft, toRight, toNode, start, sweeps}
+use Rattle.model.specs.Kinds.{Kind, rate-0, rate-1, REP, SPC, type-I, type-III, order, kindOf, isSome, isKind, shortcut}
+
+-- 2N bytes of 0 and 1, byte 0 being 0
+unfoldable pub isPlan : ℕ → List ℕ → Bool
+isPlan n plan = eqb (length plan) (2 * 2 ^ n) && (atMost 1 plan && eqb (getD plan 0 0) 0)
+
+-- value 1 cuts a node
+abbrev pub isCut : List ℕ → ℕ → Bool
+isCut plan p = eqb (getD plan p 0) 1
+
+-- the number of cuts on the path from node p down to its i-th leaf: 2p and 2p + 1 are the children
+unfoldable pub pathCuts : List ℕ → ℕ → ℕ → ℕ → ℕ
+pathCuts plan zero p i = bit (isCut plan p)
+pathCuts plan (suc t) p i =
+    bit (isCut plan p) + cond (ltb i (2 ^ t)) (pathCuts plan t (2 * p) i) (pathCuts plan t (2 * p + 1) (i - 2 ^ t))
+
+-- every path from root to leaf has exactly one cut
+unfoldable pub oneCut : ℕ → List ℕ → Bool
+oneCut n plan = every (2 ^ n) (λ i. eqb (pathCuts plan n 1 i) 1)
+
+-- from node p down, a cut node is of some kind
+unfoldable pub cutsOfKinds : List ℕ → ℕ → ℕ → List ℕ → Bool
+cutsOfKinds plan zero p mask = cond (isCut plan p) (isSome (kindOf 1 mask)) true
+cutsOfKinds plan (suc t) p mask =
+    cond (isCut plan p) (isSome (kindOf (2 ^ suc t) mask)) true
+    && (cutsOfKinds plan t (2 * p) (take (2 ^ t) mask) && cutsOfKinds plan t (2 * p + 1) (drop (2 ^ t) mask))
+
+-- a plan that keeps to all this for a mask is allowed for that mask
+pub record Allowed (n : ℕ) (plan mask : List ℕ) : Type 0 where
+  pub bytes : T (isPlan n plan)
+  pub paths : T (oneCut n plan)
+  pub kinds : T (cutsOfKinds plan n 1 mask)
+
+-- ---- the walk that follows a plan
+
+-- a node's message is replaced, what is stored below it stays
+abbrev pub put : List Soft → Tree → Tree
+put m (leaf x) = leaf m
+put m (node x l r) = node m l r
+
+-- a cut node gets its kind's message
+abbrev pub putKind : Option Kind → ℕ → List Soft → Tree → Tree
+putKind none m L T = T
+putKind (some k) m L T = put (shortcut k m L) T
+
+unfoldable pub walk : List ℕ → ℕ → ℕ → List ℕ → Tree → List Soft → Tree
+walk plan zero p mask T L = putKind (kindOf 1 mask) 1 L T
+walk plan (suc t) p mask T L =
+    let l : Tree = walk plan t (2 * p) (take (2 ^ t) mask) (left T) (toLeft (2 ^ t) L (message (right T))) in
+    let r : Tree = walk plan t (2 * p + 1) (drop (2 ^ t) mask) (right T) (toRight (2 ^ t) L (message l)) in
+    let through : Tree = node (toNode (2 ^ t) L (message l) (message r)) l r in
+    cond (isCut plan p) (putKind (kindOf (2 ^ suc t) mask) (2 ^ suc t) L T) through
+
+-- the root's message after k sweeps along a plan
+unfoldable pub planned : List ℕ → ℕ → List ℕ → List Soft → ℕ → List Soft
+planned plan n mask L k = message (sweeps (λ T. walk plan n 1 mask T L) k (start n mask))
+
+-- ---- the latency model: cycles of one sweep
+
+abbrev pub isRate01 : Option Kind → Bool
+isRate01 none = false
+isRate01 (some rate-0) = true
+isRate01 (some rate-1) = true
+isRate01 (some REP) = false
+isRate01 (some SPC) = false
+isRate01 (some type-I) = false
+isRate01 (some type-III) = false
+
+-- a cut rate-0 or rate-1 node 0; another cut node 2
+abbrev pub cutCycles : Option Kind → ℕ
+cutCycles none = 0
+cutCycles (some rate-0) = 0
+cutCycles (some rate-1) = 0
+cutCycles (some REP) = 2
+cutCycles (some SPC) = 2
+cutCycles (some type-I) = 2
+cutCycles (some type-III) = 2
+
+-- 2 for a child that is not a cut rate-0 or rate-1 node
+abbrev pub edgeCycles : List ℕ → ℕ → ℕ → List ℕ → ℕ
+edgeCycles plan m p mask = cond (isCut plan p && isRate01 (kindOf m mask)) 0 2
+
+-- an uncut node 2, plus its edges
+unfoldable pub cycles : List ℕ → ℕ → ℕ → List ℕ → ℕ
+cycles plan zero p mask = cutCycles (kindOf 1 mask)
+cycles plan (suc t) p mask =
+    let a : List ℕ = take (2 ^ t) mask in
+    let b : List ℕ = drop (2 ^ t) mask in
+    let edges : ℕ = edgeCycles plan (2 ^ t) (2 * p) a + edgeCycles plan (2 ^ t) (2 * p + 1) b in
+    let below : ℕ = cycles plan t (2 * p) a + cycles plan t (2 * p + 1) b in
+    cond (isCut plan p) (cutCycles (kindOf (2 ^ suc t) mask)) (2 + edges + below)
+
+-- ---- the planner cuts each node of a kind that has no such node above it
+
+-- d levels below a node of stage t, at place i of that level: is the node of a kind, with none above it?
+unfoldable pub cutAt : ℕ → ℕ → ℕ → List ℕ → Bool
+cutAt t zero i mask = isSome (kindOf (2 ^ t) mask)
+cutAt zero (suc d) i mask = false
+cutAt (suc t) (suc d) i mask =
+    not (isSome (kindOf (2 ^ suc t) mask))
+    && cond (ltb i (2 ^ d)) (cutAt t d i (take (2 ^ t) mask)) (cutAt t d (i - 2 ^ d) (drop (2 ^ t) mask))
+
+-- byte 0, and the levels from the root down to d: node 2 ^ d + i is place i of level d
+unfoldable pub levels : ℕ → List ℕ → ℕ → List ℕ
+levels n mask zero = 0 ∷ bit (cutAt n 0 0 mask) ∷ []
+levels n mask (suc d) = levels n mask d ++ tabulate (2 ^ suc d) (λ i. bit (cutAt n (suc d) i mask))
+
+unfoldable pub plannerPlan : ℕ → List ℕ → List ℕ
+plannerPlan n mask = levels n mask n
+
+-- ---- numbers of cut nodes
+
+-- from node p down
+unfoldable pub cutsBelow : List ℕ → ℕ → ℕ → ℕ
+cutsBelow plan zero p = bit (isCut plan p)
+cutsBelow plan (suc t) p = bit (isCut plan p) + (cutsBelow plan t (2 * p) + cutsBelow plan t (2 * p + 1))
+
+-- of kind k, from node p down
+unfoldable pub cutsOf : Kind → List ℕ → ℕ → ℕ → List ℕ → ℕ
+cutsOf k plan zero p mask = bit (isCut plan p && isKind k (kindOf 1 mask))
+cutsOf k plan (suc t) p mask =
+    bit (isCut plan p && isKind k (kindOf (2 ^ suc t) mask))
+    + (cutsOf k plan t (2 * p) (take (2 ^ t) mask) + cutsOf k plan t (2 * p + 1) (drop (2 ^ t) mask))
+
+-- six counts by kind, in table order
+unfoldable pub counts : List ℕ → ℕ → List ℕ → List ℕ
+counts plan n mask = map (λ k. cutsOf k plan n 1 mask) order
+
+-- ---- plans as a recursion from the root down, which the code follows; proofs/Paths.antt shows that it says what `Allowed` says
+
+-- neither node p nor a node below it is cut
+unfoldable pub noCut : List ℕ → ℕ → ℕ → Bool
+noCut plan zero p = not (isCut plan p)
+noCut plan (suc t) p = not (isCut plan p) && (noCut plan t (2 * p) && noCut plan t (2 * p + 1))
+
+-- either node p is cut, is of some kind and has no cut below it, or both its children are so
+unfoldable pub wellCut : List ℕ → ℕ → ℕ → List ℕ → Bool
+wellCut plan zero p mask = isCut plan p && isSome (kindOf 1 mask)
+wellCut plan (suc t) p mask =
+    cond (isCut plan p) (isSome (kindOf (2 ^ suc t) mask) && (noCut plan t (2 * p) && noCut plan t (2 * p + 1)))
+    (wellCut plan t (2 * p) (take (2 ^ t) mask) && wellCut plan t (2 * p + 1) (drop (2 ^ t) mask))

@@ -1,0 +1,185 @@
+-- Turned-down calls: the table's rows, each call's number, and what a call leaves in each lent buffer. Assumes nothing.
+use Prim.Native.Nat.{ℕ, zero, suc, _+_, _*_, _^_}
+use mathlib.Core.Bool.{Bool, true, false, cond, not, _&&_}
+use mathlib.Core.List.{List, [], _∷_, map}
+use lib.Dec.{eqb, leb}
+use lib.IntN.{ℤ, pos, natAbs}
+use lib.ListN.{length, replicate}
+use lib.Ieee.{Float}
+use Rattle.model.specs.Lists.{atMost, over}
+use Rattle.model.specs.Soft.{Soft, finite, wordOf}
+use Rattle.model.specs.Samples.{isVariance, allReadable, llrsOf}
+use Rattle.model.specs.Encoding.{unfrozen, encode}
+use Rattle.model.specs.Scan.{Decoded, decodeScan}
+use Rattle.model.specs.Kinds.{order}
+use Rattle.model.specs.Plans.{isPlan, oneCut, cutsOfKinds, cycles, plannerPlan, counts}
+
+-- a test of an input, with the number of a call that fails it
+pub data Test : Type 0 where
+  test : ℕ → Bool → Test
+
+-- the number of the first test that fails, and 0 where all pass
+unfoldable pub refusal : List Test → ℕ
+refusal [] = 0
+refusal (test number passed ∷ ts) = cond passed (refusal ts) number
+
+-- ---- the rows
+
+-- the exponent of a power of two from 2 to 2 ^ t; 0 of any other number
+unfoldable pub exponentTo : ℕ → ℕ → ℕ
+exponentTo zero N = 0
+exponentTo (suc t) N = cond (eqb N (2 ^ suc t)) (suc t) (exponentTo t N)
+
+-- n of an allowed N, from 2 to 1024
+abbrev pub exponent : ℕ → ℕ
+exponent N = exponentTo 10 N
+
+abbrev pub maxSweeps : ℕ
+maxSweeps = 16
+
+-- the largest mask byte
+abbrev pub maxMask : ℕ
+maxMask = 1
+
+-- an LLR is within ±32767
+unfoldable pub llrsInRange : List ℤ → Bool
+llrsInRange [] = true
+llrsInRange (z ∷ zs) = leb (natAbs z) 32767 && llrsInRange zs
+
+abbrev pub row-1 : ℕ → Test
+row-1 N = test 1 (not (eqb (exponent N) 0))
+
+abbrev pub row-2 : List ℕ → Test
+row-2 mask = test 2 (atMost maxMask mask)
+
+-- LLRs or position marks N, payload K
+abbrev pub row-3 : ℕ → ℕ → Test
+row-3 count wanted = test 3 (eqb count wanted)
+
+abbrev pub row-4 : ℕ → Test
+row-4 sweeps = test 4 (leb 1 sweeps && leb sweeps maxSweeps)
+
+abbrev pub row-5 : ℕ → List ℕ → Test
+row-5 n plan = test 5 (isPlan n plan)
+
+abbrev pub row-6 : ℕ → List ℕ → List ℕ → Test
+row-6 n plan mask = test 6 (oneCut n plan && cutsOfKinds plan n 1 mask)
+
+abbrev pub row-7 : List ℤ → Test
+row-7 llrs = test 7 (llrsInRange llrs)
+
+abbrev pub row-8 : Float → Test
+row-8 v = test 8 (isVariance v)
+
+abbrev pub row-9 : List ℕ → List Float → Test
+row-9 marks samples = test 9 (allReadable marks samples)
+
+abbrev pub row-10 : List ℕ → Test
+row-10 payload = test 10 (atMost 1 payload)
+
+-- an output has room for what is written
+abbrev pub row-11 : ℕ → ℕ → Test
+row-11 wanted room = test 11 (leb wanted room)
+
+abbrev pub row-12 : ℕ → ℕ → Test
+row-12 wanted words = test 12 (leb wanted words)
+
+-- an accepted call's result; every other result is 0, or the buffer as it was
+abbrev pub accepted {ℓ} : {A : Type ℓ} → ℕ → A → A → A
+accepted number result other = cond (eqb number 0) result other
+
+-- ---- samples to LLRs
+
+unfoldable pub samplesNumber : List Float → List ℕ → Float → ℕ → ℕ
+samplesNumber samples marks v room =
+    let N : ℕ = length samples in
+    refusal (row-1 N ∷ row-3 (length marks) N ∷ row-8 v ∷ row-9 marks samples ∷ row-11 N room ∷ [])
+
+unfoldable pub samplesLlrs : List Float → List ℕ → Float → List ℤ → List ℤ
+samplesLlrs samples marks v llrs =
+    accepted (samplesNumber samples marks v (length llrs)) (over (llrsOf v marks samples) llrs) llrs
+
+-- ---- encoder
+
+unfoldable pub encodeNumber : List ℕ → List ℕ → ℕ → ℕ
+encodeNumber mask payload room =
+    let N : ℕ = length mask in
+    refusal (row-1 N ∷ row-2 mask ∷ row-3 (length payload) (unfrozen mask) ∷ row-10 payload ∷ row-11 N room ∷ [])
+
+unfoldable pub encodeWord : List ℕ → List ℕ → List ℕ → List ℕ
+encodeWord mask payload word =
+    accepted (encodeNumber mask payload (length word)) (over (encode (exponent (length mask)) mask payload) word) word
+
+-- ---- planner
+
+unfoldable pub planNumber : List ℕ → ℕ → ℕ
+planNumber mask room =
+    let N : ℕ = length mask in
+    refusal (row-1 N ∷ row-2 mask ∷ row-11 (2 * N) room ∷ [])
+
+unfoldable pub planBytes : List ℕ → List ℕ → List ℕ
+planBytes mask plan = accepted (planNumber mask (length plan)) (over (plannerPlan (exponent (length mask)) mask) plan) plan
+
+-- the six counts
+unfoldable pub planCounts : List ℕ → ℕ → List ℕ
+planCounts mask room =
+    let n : ℕ = exponent (length mask) in
+    accepted (planNumber mask room) (counts (plannerPlan n mask) n mask) (replicate (length order) 0)
+
+-- ---- check of a plan, which decode's tests share
+
+unfoldable pub checkNumber : List ℕ → List ℕ → ℕ
+checkNumber mask plan =
+    let n : ℕ = exponent (length mask) in
+    refusal (row-1 (length mask) ∷ row-2 mask ∷ row-5 n plan ∷ row-6 n plan mask ∷ [])
+
+-- cycles of one sweep
+unfoldable pub checkCycles : List ℕ → List ℕ → ℕ
+checkCycles mask plan = accepted (checkNumber mask plan) (cycles plan (exponent (length mask)) 1 mask) 0
+
+-- ---- decoder
+
+-- a decode's inputs, with the lengths of its lent buffers
+pub record DecodeCall : Type 0 where
+  pub mask : List ℕ
+  pub plan : List ℕ
+  pub sweeps : ℕ
+  pub llrs : List ℤ
+  pub softRoom : ℕ
+  pub hardRoom : ℕ
+  pub payloadRoom : ℕ
+  pub words : ℕ
+
+unfoldable pub decodeNumber : DecodeCall → ℕ
+decodeNumber c =
+    let N : ℕ = length (c .mask) in
+    let n : ℕ = exponent N in
+    refusal
+    (row-1 N ∷ row-2 (c .mask) ∷ row-3 (length (c .llrs)) N ∷ row-4 (c .sweeps) ∷ row-5 n (c .plan) ∷ row-6 n (c .plan) (c .mask) ∷ row-7 (c .llrs)
+    ∷ row-11 N (c .softRoom) ∷ row-11 N (c .hardRoom) ∷ row-11 (unfrozen (c .mask)) (c .payloadRoom) ∷ row-12 (N * (n + 3)) (c .words) ∷ [])
+
+-- what SCAN gives for the call's mask, LLRs and sweeps
+unfoldable pub decodeAnswer : DecodeCall → Decoded
+decodeAnswer c = decodeScan (exponent (length (c .mask))) (c .mask) (map finite (c .llrs)) (c .sweeps)
+
+-- the model's count times the sweeps
+unfoldable pub decodeCycles : DecodeCall → ℕ
+decodeCycles c = accepted (decodeNumber c) (c .sweeps * cycles (c .plan) (exponent (length (c .mask))) 1 (c .mask)) 0
+
+unfoldable pub decodeCheck : DecodeCall → ℕ
+decodeCheck c = accepted (decodeNumber c) (decodeAnswer c .check) 0
+
+unfoldable pub decodeSoft : DecodeCall → List ℤ → List ℤ
+decodeSoft c soft = accepted (decodeNumber c) (over (map wordOf (decodeAnswer c .soft)) soft) soft
+
+unfoldable pub decodeHard : DecodeCall → List ℕ → List ℕ
+decodeHard c hard = accepted (decodeNumber c) (over (decodeAnswer c .hard) hard) hard
+
+unfoldable pub decodePayload : DecodeCall → List ℕ → List ℕ
+decodePayload c payload = accepted (decodeNumber c) (over (decodeAnswer c .payload) payload) payload
+
+-- the first N(n + 3) words are zero afterwards
+unfoldable pub decodeWork : DecodeCall → List ℤ → List ℤ
+decodeWork c work =
+    let N : ℕ = length (c .mask) in
+    accepted (decodeNumber c) (over (replicate (N * (exponent N + 3)) (pos 0)) work) work

@@ -1,0 +1,94 @@
+-- SCAN by definition, walked down to the last leaf. A node of stage t has size 2 ^ t. Assumes nothing.
+-- "Message" is the literature's extrinsic message, "incoming list" its a-priori list.
+use Prim.Native.Nat.{ℕ, zero, suc, _+_, _^_}
+use mathlib.Core.Bool.{Bool, true, false, cond}
+use mathlib.Core.List.{List, [], _∷_, _++_}
+use lib.ListN.{getD, take, drop}
+use Rattle.model.specs.Lists.{tabulate, bit}
+use Rattle.model.specs.Soft.{Soft, finite, certain, softZero, _at_, box, plus, negative}
+use Rattle.model.specs.Encoding.{isUnfrozen, transform, payloadOf, frozenZero}
+
+-- Each node keeps a message list of its size.
+pub data Tree : Type 0 where
+  leaf : List Soft → Tree
+  node : List Soft → Tree → Tree → Tree
+
+abbrev pub message : Tree → List Soft
+message (leaf m) = m
+message (node m l r) = m
+
+abbrev pub left : Tree → Tree
+left (leaf m) = leaf []
+left (node m l r) = l
+
+abbrev pub right : Tree → Tree
+right (leaf m) = leaf []
+right (node m l r) = r
+
+-- a frozen leaf has ∞ and an unfrozen leaf 0
+unfoldable pub leafValue : ℕ → Soft
+leafValue b = cond (isUnfrozen b) softZero certain
+
+-- before the first sweep: the leaves' values, and every larger node has zeros
+unfoldable pub start : ℕ → List ℕ → Tree
+start zero mask = leaf (leafValue (getD mask 0 0) ∷ [])
+start (suc t) mask =
+    node (tabulate (2 ^ suc t) (λ k. softZero)) (start t (take (2 ^ t) mask)) (start t (drop (2 ^ t) mask))
+
+-- the left child is visited with box(L[k], L[k+h] + r[k]), r as last stored
+unfoldable pub toLeft : ℕ → List Soft → List Soft → List Soft
+toLeft h L r = tabulate h (λ k. box (L at k) (plus (L at (k + h)) (r at k)))
+
+-- the right child is visited with box(L[k], l[k]) + L[k+h]
+unfoldable pub toRight : ℕ → List Soft → List Soft → List Soft
+toRight h L l = tabulate h (λ k. plus (box (L at k) (l at k)) (L at (k + h)))
+
+-- the node's message becomes box(l[k], L[k+h] + r[k]) at k and r[k] + box(L[k], l[k]) at k+h
+unfoldable pub toNode : ℕ → List Soft → List Soft → List Soft → List Soft
+toNode h L l r =
+    tabulate h (λ k. box (l at k) (plus (L at (k + h)) (r at k)))
+    ++ tabulate h (λ k. plus (r at k) (box (L at k) (l at k)))
+
+-- a visit of a node of stage t with the incoming list L: a leaf keeps its message for good
+unfoldable pub visit : ℕ → Tree → List Soft → Tree
+visit zero T L = T
+visit (suc t) T L =
+    let l : Tree = visit t (left T) (toLeft (2 ^ t) L (message (right T))) in
+    let r : Tree = visit t (right T) (toRight (2 ^ t) L (message l)) in
+    node (toNode (2 ^ t) L (message l) (message r)) l r
+
+-- a number of sweeps
+unfoldable pub sweeps : (Tree → Tree) → ℕ → Tree → Tree
+sweeps sweep zero T = T
+sweeps sweep (suc k) T = sweeps sweep k (sweep T)
+
+-- the soft values after k sweeps, each of which visits the root with the LLRs
+unfoldable pub scan : ℕ → List ℕ → List Soft → ℕ → List Soft
+scan n mask L k = message (sweeps (λ T. visit n T L) k (start n mask))
+
+-- 1 exactly if the sum is negative; ∞ gives 0
+abbrev pub hardBit : Soft → ℕ
+hardBit (finite z) = bit (negative z)
+hardBit certain = 0
+
+-- the hard bits, from LLR plus soft
+unfoldable pub hardWord : ℕ → List Soft → List Soft → List ℕ
+hardWord n L s = tabulate (2 ^ n) (λ k. hardBit (plus (L at k) (s at k)))
+
+-- what a decode writes, and its frozen check
+pub record Decoded : Type 0 where
+  pub soft : List Soft
+  pub hard : List ℕ
+  pub payload : List ℕ
+  pub check : ℕ
+
+-- what is read off soft values: the hard word, the decoded u's unfrozen bits, and whether its frozen bits are all 0
+unfoldable pub decided : ℕ → List ℕ → List Soft → List Soft → Decoded
+decided n mask L s =
+    let hard : List ℕ = hardWord n L s in
+    let u : List ℕ = transform n hard in
+    record { soft = s; hard = hard; payload = payloadOf mask u; check = bit (frozenZero mask u) }
+
+-- SCAN: it takes a mask, LLRs and a number of sweeps, and knows no plan
+unfoldable pub decodeScan : ℕ → List ℕ → List Soft → ℕ → Decoded
+decodeScan n mask L k = decided n mask L (scan n mask L k)
