@@ -1,0 +1,170 @@
+-- Laws of lists made by a formula, and of totals. Assumes nothing.
+use mathlib.Core.Path.{_≡_, refl, sym, _∙_, ap, ap₂, subst}
+use mathlib.Core.Logic.{_≢_}
+use mathlib.Core.Bool.{Bool, true, false, cond, not, _&&_}
+use mathlib.Core.List.{List, [], _∷_, _++_}
+use Prim.Native.Nat.{ℕ, zero, suc, _+_, _*_, _^_, _<_, _≤_, _-_, _%_, zero-le, suc-le-suc}
+use native.Mathlib.Nat.{zero-add, add-zero, suc-add, add-suc, not-suc-le-zero, le-of-suc-le-suc}
+use native.Mathlib.Omega.{arith}
+use lib.Dec.{T, eqb, eqb→eq, eqb-refl, eqb·suc-suc, eqb·suc-zero, eqb·zero-suc}
+use lib.ListN.{length, getD, take, drop, replicate, List·getD-append}
+use lib.Seq.{getD-append-add}
+use native.Mathlib.Decide.{decLt}
+use Rattle.model.specs.Lists.{tabulate, total, same}
+
+pub double : (t : ℕ) → 2 ^ suc t ≡ 2 ^ t + 2 ^ t
+double t = omega arith
+
+module _ {ℓ} {A : Type ℓ} where
+  pub length-tabulate : (n : ℕ) (f : ℕ → A) → length (tabulate n f) ≡ n
+  unfolding tabulate
+  length-tabulate zero f = refl
+  length-tabulate (suc n) f = ap suc (length-tabulate n (λ k. f (suc k)))
+
+  pub getD-tabulate : (n : ℕ) (f : ℕ → A) (k : ℕ) (d : A) → k < n → getD (tabulate n f) k d ≡ f k
+  unfolding tabulate
+  getD-tabulate zero f k d h = absurd (not-suc-le-zero h)
+  getD-tabulate (suc n) f zero d h = refl
+  getD-tabulate (suc n) f (suc k) d h = getD-tabulate n (λ j. f (suc j)) k d (le-of-suc-le-suc h)
+
+  pub tabulate-ext : (n : ℕ) (f g : ℕ → A) → ((k : ℕ) → k < n → f k ≡ g k) → tabulate n f ≡ tabulate n g
+  unfolding tabulate
+  tabulate-ext zero f g e = refl
+  tabulate-ext (suc n) f g e =
+      ap₂ (λ x xs. x ∷ xs) (e zero (omega arith)) (tabulate-ext n (λ k. f (suc k)) (λ k. g (suc k)) (λ k h. e (suc k) (suc-le-suc h)))
+
+  pub tabulate-split : (m n : ℕ) (f : ℕ → A) → tabulate (m + n) f ≡ tabulate m f ++ tabulate n (λ k. f (k + m))
+  unfolding tabulate
+  tabulate-split zero n f = rw (zero-add n) (tabulate-ext n f (λ k. f (k + 0)) (λ k h. rw (add-zero k)))
+  tabulate-split (suc m) n f =
+      rw (suc-add m n) (ap {B = List A} (λ xs. f zero ∷ xs)
+      (tabulate-split m n (λ k. f (suc k)) ∙ ap {B = List A} (λ xs. tabulate m (λ k. f (suc k)) ++ xs)
+      (tabulate-ext n (λ k. f (suc (k + m))) (λ k. f (k + suc m)) (λ k h. rw (add-suc k m)))))
+
+  -- two lists joined, of which the first is made by a formula: a place of the first, and of the second
+  pub joined-lo : (h : ℕ) (f : ℕ → A) (l : List A) (k : ℕ) (d : A) → k < h → getD (tabulate h f ++ l) k d ≡ f k
+  joined-lo h f l k d m = List·getD-append (tabulate h f) l d k (rw (length-tabulate h f) m) ∙ getD-tabulate h f k d m
+
+  pub joined-hi : (h : ℕ) (f : ℕ → A) (l : List A) (k : ℕ) (d : A) → getD (tabulate h f ++ l) (k + h) d ≡ getD l k d
+  joined-hi h f l k d =
+      ap (λ (n : ℕ). getD (tabulate h f ++ l) n d) (e (sym (length-tabulate h f))) ∙ getD-append-add (tabulate h f) l k d
+    where
+      e : {n : ℕ} → h ≡ n → k + h ≡ n + k
+      e p = omega arith
+
+  -- the two halves of a list made by a formula
+  pub tabulate-halves : (t : ℕ) (f g₁ g₂ : ℕ → A) → ((k : ℕ) → k < 2 ^ t → g₁ k ≡ f k) → ((k : ℕ) → k < 2 ^ t → g₂ k ≡ f (k + 2 ^ t))
+      → tabulate (2 ^ t) g₁ ++ tabulate (2 ^ t) g₂ ≡ tabulate (2 ^ suc t) f
+  tabulate-halves t f g₁ g₂ e₁ e₂ =
+      ap₂ (λ xs ys. xs ++ ys) (tabulate-ext (2 ^ t) g₁ f e₁) (tabulate-ext (2 ^ t) g₂ (λ k. f (k + 2 ^ t)) e₂)
+      ∙ sym (tabulate-split (2 ^ t) (2 ^ t) f) ∙ ap (λ (n : ℕ). tabulate n f) (sym (double t))
+
+-- a fact of each place of the two halves is one of each place
+pub halves {ℓ} : (t : ℕ) (P : ℕ → Type ℓ) → ((k : ℕ) → k < 2 ^ t → P k) → ((k : ℕ) → k < 2 ^ t → P (k + 2 ^ t)) → (k : ℕ) → k < 2 ^ suc t → P k
+halves t P f g k h = go (decLt k (2 ^ t))
+  where
+    back : (k < 2 ^ t → ⊥) → (k - 2 ^ t) + 2 ^ t ≡ k
+    back n = omega arith
+
+    go : Dec (k < 2 ^ t) → P k
+    go (yes l) = f k l
+    go (no n) = subst P (back n) (g (k - 2 ^ t) (omega arith))
+
+pub only {ℓ} : (P : ℕ → Type ℓ) → P 0 → (k : ℕ) → k < 1 → P k
+only P p k h = subst P (e h) p
+  where
+    e : k < 1 → 0 ≡ k
+    e h = omega arith
+
+-- ---- tests
+pub T-true : (b : Bool) → T b → b ≡ true
+T-true true t = refl
+T-true false t = absurd t
+
+pub true-T : (b : Bool) → b ≡ true → T b
+true-T b e = subst T (sym e) tt
+
+pub absurd-bool : (b : Bool) → b ≡ true → b ≡ false → ⊥
+absurd-bool b p q = let z : _≡_ {A = ℕ} 0 1 = cc in omega arith
+
+pub and-l : (a b : Bool) → T (a && b) → T a
+and-l true b t = tt
+and-l false b t = t
+
+pub and-r : (a b : Bool) → T (a && b) → T b
+and-r true b t = t
+and-r false b t = absurd t
+
+-- what holds of both branches holds of the one taken
+pub cond-both {ℓ ℓ′} : {A : Type ℓ} (P : A → Type ℓ′) (b : Bool) {x y : A} → P x → P y → P (cond b x y)
+cond-both P true p q = p
+cond-both P false p q = q
+
+pub and-T : (a b : Bool) → T a → T b → T (a && b)
+and-T true b x y = y
+and-T false b x y = x
+
+pub eqb-same : (n : ℕ) → eqb n n ≡ true
+eqb-same n = T-true (eqb n n) (eqb-refl n)
+
+pub eqb-apart : (m n : ℕ) → (m ≡ n → ⊥) → eqb m n ≡ false
+eqb-apart m n h = go (eqb m n) refl
+  where
+    go : (b : Bool) → eqb m n ≡ b → eqb m n ≡ false
+    go true e = absurd (h (eqb→eq m n (subst T (sym e) tt)))
+    go false e = e
+
+-- ---- totals over a commutative monoid
+pub record Monoid {A : Type 0} (op : A → A → A) (e : A) : Type 0 where
+  pub assoc : (a b c : A) → op (op a b) c ≡ op a (op b c)
+  pub comm : (a b : A) → op a b ≡ op b a
+  pub unit : (a : A) → op e a ≡ a
+
+module _ {A : Type 0} (op : A → A → A) (e : A) (M : Monoid op e) where
+  pub swap : (a b c : A) → op a (op b c) ≡ op b (op a c)
+  swap a b c = sym (M .assoc a b c) ∙ ap (λ x. op x c) (M .comm a b) ∙ M .assoc b a c
+
+  pub total-ext : (n : ℕ) (f g : ℕ → A) → ((k : ℕ) → k < n → f k ≡ g k) → total op e n f ≡ total op e n g
+  unfolding total
+  total-ext zero f g h = refl
+  total-ext (suc n) f g h =
+      ap₂ op (h zero (omega arith)) (total-ext n (λ k. f (suc k)) (λ k. g (suc k)) (λ k l. h (suc k) (suc-le-suc l)))
+
+  pub total-none : (n : ℕ) (f : ℕ → A) → ((k : ℕ) → k < n → f k ≡ e) → total op e n f ≡ e
+  unfolding total
+  total-none zero f h = refl
+  total-none (suc n) f h =
+      ap₂ op (h zero (omega arith)) (total-none n (λ k. f (suc k)) (λ k l. h (suc k) (suc-le-suc l))) ∙ M .unit e
+
+  pub total-split : (m n : ℕ) (f : ℕ → A) → total op e (m + n) f ≡ op (total op e m f) (total op e n (λ k. f (k + m)))
+  unfolding total
+  total-split zero n f =
+      rw (zero-add n) (total-ext n f (λ k. f (k + 0)) (λ k h. rw (add-zero k)) ∙ sym (M .unit (total op e n (λ k. f (k + 0)))))
+  total-split (suc m) n f =
+      rw (suc-add m n) (ap (λ x. op (f zero) x) (total-split m n (λ k. f (suc k))
+      ∙ ap (λ x. op (total op e m (λ k. f (suc k))) x)
+      (total-ext n (λ k. f (suc (k + m))) (λ k. f (k + suc m)) (λ k h. rw (add-suc k m))))
+      ∙ sym (M .assoc (f zero) (total op e m (λ k. f (suc k))) (total op e n (λ k. f (k + suc m)))))
+
+  pub total-op : (n : ℕ) (f g : ℕ → A) → total op e n (λ k. op (f k) (g k)) ≡ op (total op e n f) (total op e n g)
+  unfolding total
+  total-op zero f g = sym (M .unit e)
+  total-op (suc n) f g =
+      ap (λ x. op (op (f zero) (g zero)) x) (total-op n (λ k. f (suc k)) (λ k. g (suc k)))
+      ∙ cross (f zero) (g zero) (total op e n (λ k. f (suc k))) (total op e n (λ k. g (suc k)))
+    where
+      cross : (a b c d : A) → op (op a b) (op c d) ≡ op (op a c) (op b d)
+      cross a b c d = M .assoc a b (op c d) ∙ ap (λ x. op a x) (swap b c d) ∙ sym (M .assoc a c (op b d))
+
+  -- the value at one place, and the total of the others
+  pub total-pull : (n : ℕ) (f : ℕ → A) (k : ℕ) → k < n → total op e n f ≡ op (f k) (total op e n (λ j. cond (eqb j k) e (f j)))
+  unfolding total
+  total-pull zero f k h = absurd (not-suc-le-zero h)
+  total-pull (suc n) f zero h =
+      ap (λ x. op (f zero) x) (sym (M .unit (total op e n (λ j. cond (eqb (suc j) 0) e (f (suc j))))
+      ∙ total-ext n (λ j. cond (eqb (suc j) 0) e (f (suc j))) (λ j. f (suc j)) (λ j l. rw (eqb·suc-zero j))))
+  total-pull (suc n) f (suc k) h =
+      ap (λ x. op (f zero) x) (total-pull n (λ j. f (suc j)) k (le-of-suc-le-suc h))
+      ∙ swap (f zero) (f (suc k)) (total op e n (λ j. cond (eqb j k) e (f (suc j))))
+      ∙ ap (λ x. op (f (suc k)) x) (ap₂ op (sym (rw (eqb·zero-suc k)))
+      (total-ext n (λ j. cond (eqb j k) e (f (suc j))) (λ j. cond (eqb (suc j) (suc k)) e (f (suc j))) (λ j l. rw (eqb·suc-suc j k))))
