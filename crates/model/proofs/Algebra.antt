@@ -1,11 +1,10 @@
 -- The laws of box and plus. Numbers are taken by sign and size: `box-signed` carries box to `min` and the product of signs. Assumes nothing.
-use mathlib.Core.Path.{_≡_, refl, sym, _∙_, ap, ap₂, subst}
-use mathlib.Core.Bool.{Bool, true, false, cond, not}
-use mathlib.Core.List.{List, [], _∷_, _++_}
-use Prim.Native.Nat.{ℕ, zero, suc, _+_, min}
+use mathlib.Core.Path.{_≡_, refl, sym, _∙_, ap, ap₂}
+use mathlib.Core.Bool.{Bool, true, false}
+use Prim.Native.Nat.{ℕ, zero, suc, min}
 use native.Mathlib.Nat.{zero-min, min-zero, min-comm}
 use native.Mathlib.Omega.{arith}
-use lib.IntN.{ℤ, pos, negsuc, negℤ, natAbs, _+ℤ_, +ℤ-assoc, +ℤ-comm, +ℤ-idl}
+use lib.IntN.{ℤ, pos, negsuc, natAbs, +ℤ-assoc, +ℤ-comm, +ℤ-idl}
 use Rattle.model.specs.Soft.{Soft, finite, certain, softZero, box, boxℤ, plus, signed, negative, differ}
 use Rattle.model.proofs.Lists.{Monoid}
 

@@ -1,16 +1,16 @@
 -- Laws of lists made by a formula, and of totals. Assumes nothing.
 use mathlib.Core.Path.{_≡_, refl, sym, _∙_, ap, ap₂, subst}
-use mathlib.Core.Logic.{_≢_}
-use mathlib.Core.Bool.{Bool, true, false, cond, not, _&&_}
+use mathlib.Core.Bool.{Bool, true, false, cond, _&&_}
 use mathlib.Core.List.{List, [], _∷_, _++_}
-use Prim.Native.Nat.{ℕ, zero, suc, _+_, _*_, _^_, _<_, _≤_, _-_, _%_, zero-le, suc-le-suc}
+use Prim.Native.Nat.{ℕ, zero, suc, _+_, _^_, _<_, _≤_, _-_, zero-le, suc-le-suc}
 use native.Mathlib.Nat.{zero-add, add-zero, suc-add, add-suc, not-suc-le-zero, le-of-suc-le-suc}
 use native.Mathlib.Omega.{arith}
-use lib.Dec.{T, eqb, eqb→eq, eqb-refl, eqb·suc-suc, eqb·suc-zero, eqb·zero-suc}
+use borrow.Author.Tests.{le-leb}
+use lib.Dec.{T, eqb, leb, leb→le, eqb→eq, eqb-refl, eqb·suc-suc, eqb·suc-zero, eqb·zero-suc}
 use lib.ListN.{length, getD, take, drop, replicate, List·getD-append}
 use lib.Seq.{getD-append-add}
 use native.Mathlib.Decide.{decLt}
-use Rattle.model.specs.Lists.{tabulate, total, same}
+use Rattle.model.specs.Lists.{tabulate, total, every, atMost}
 
 pub double : (t : ℕ) → 2 ^ suc t ≡ 2 ^ t + 2 ^ t
 double t = omega arith
@@ -103,6 +103,59 @@ cond-both P false p q = q
 pub and-T : (a b : Bool) → T a → T b → T (a && b)
 and-T true b x y = y
 and-T false b x y = x
+
+pub T-ext : (a b : Bool) → (T a → T b) → (T b → T a) → a ≡ b
+T-ext true true f g = refl
+T-ext true false f g = absurd (f tt)
+T-ext false true f g = absurd (g tt)
+T-ext false false f g = refl
+
+pub every-at : (n : ℕ) (f : ℕ → Bool) → T (every n f) → (k : ℕ) → k < n → T (f k)
+unfolding every
+every-at zero f e k h = absurd (not-suc-le-zero h)
+every-at (suc n) f e zero h = and-l (f zero) (every n (λ k. f (suc k))) e
+every-at (suc n) f e (suc k) h = every-at n (λ j. f (suc j)) (and-r (f zero) (every n (λ k. f (suc k))) e) k (le-of-suc-le-suc h)
+
+pub at-every : (n : ℕ) (f : ℕ → Bool) → ((k : ℕ) → k < n → T (f k)) → T (every n f)
+unfolding every
+at-every zero f h = tt
+at-every (suc n) f h = and-T (f zero) (every n (λ k. f (suc k))) (h zero (omega arith)) (at-every n (λ k. f (suc k)) (λ k l. h (suc k) (suc-le-suc l)))
+
+pub at-most-at : (m : ℕ) (xs : List ℕ) (k : ℕ) → T (atMost m xs) → getD xs k 0 ≤ m
+unfolding atMost
+at-most-at m [] k a = zero-le
+at-most-at m (x ∷ xs) zero a = leb→le x m (and-l (leb x m) (atMost m xs) a)
+at-most-at m (x ∷ xs) (suc k) a = at-most-at m xs k (and-r (leb x m) (atMost m xs) a)
+
+pub at-most-take : (m n : ℕ) (xs : List ℕ) → T (atMost m xs) → T (atMost m (take n xs))
+unfolding atMost
+at-most-take m zero xs a = tt
+at-most-take m (suc n) [] a = tt
+at-most-take m (suc n) (x ∷ xs) a =
+    and-T (leb x m) (atMost m (take n xs)) (and-l (leb x m) (atMost m xs) a) (at-most-take m n xs (and-r (leb x m) (atMost m xs) a))
+
+pub at-most-drop : (m n : ℕ) (xs : List ℕ) → T (atMost m xs) → T (atMost m (drop n xs))
+unfolding atMost
+at-most-drop m zero xs a = a
+at-most-drop m (suc n) [] a = tt
+at-most-drop m (suc n) (x ∷ xs) a = at-most-drop m n xs (and-r (leb x m) (atMost m xs) a)
+
+pub at-most-append : (m : ℕ) (xs ys : List ℕ) → T (atMost m xs) → T (atMost m ys) → T (atMost m (xs ++ ys))
+unfolding atMost
+at-most-append m [] ys a b = b
+at-most-append m (x ∷ xs) ys a b =
+    and-T (leb x m) (atMost m (xs ++ ys)) (and-l (leb x m) (atMost m xs) a) (at-most-append m xs ys (and-r (leb x m) (atMost m xs) a) b)
+
+pub at-most-replicate : (m n x : ℕ) → x ≤ m → T (atMost m (replicate n x))
+unfolding atMost
+at-most-replicate m zero x h = tt
+at-most-replicate m (suc n) x h = and-T (leb x m) (atMost m (replicate n x)) (true-T (leb x m) (le-leb x m h)) (at-most-replicate m n x h)
+
+pub at-most-tabulate : (m n : ℕ) (f : ℕ → ℕ) → ((k : ℕ) → f k ≤ m) → T (atMost m (tabulate n f))
+unfolding atMost tabulate
+at-most-tabulate m zero f h = tt
+at-most-tabulate m (suc n) f h =
+    and-T (leb (f 0) m) (atMost m (tabulate n (λ k. f (suc k)))) (true-T (leb (f 0) m) (le-leb (f 0) m (h 0))) (at-most-tabulate m n (λ k. f (suc k)) (λ k. h (suc k)))
 
 pub eqb-same : (n : ℕ) → eqb n n ≡ true
 eqb-same n = T-true (eqb n n) (eqb-refl n)

@@ -1,15 +1,15 @@
 -- A payload placed and read back is the payload; a placed payload has bits, and zeros at the frozen positions. Assumes nothing.
-use mathlib.Core.Path.{_≡_, refl, sym, _∙_, ap, ap₂}
+use mathlib.Core.Path.{_≡_, refl, _∙_, ap}
 use mathlib.Core.Bool.{Bool, true, false, cond, _&&_}
 use mathlib.Core.List.{List, [], _∷_}
 use Prim.Native.Nat.{ℕ, zero, suc, _+_, _≤_, zero-le}
 use native.Mathlib.Nat.{zero-add}
 use native.Mathlib.Omega.{arith}
-use lib.Dec.{T, eqb, leb, leb→le}
+use lib.Dec.{T, eqb}
 use lib.ListN.{getD, drop, length}
 use Rattle.model.specs.Lists.{atMost, bit}
 use Rattle.model.specs.Encoding.{unfrozen, place, payloadOf, frozenZero}
-use Rattle.model.proofs.Lists.{and-l, and-r, cond-both}
+use Rattle.model.proofs.Lists.{cond-both, at-most-at, at-most-drop}
 
 pub length-place : (mask bits : List ℕ) → length (place mask bits) ≡ length mask
 unfolding place
@@ -52,20 +52,9 @@ place-clean (m ∷ mask) bits zero e = rw e
 place-clean (m ∷ mask) bits (suc k) e =
     cond-both (λ (u : List ℕ). getD u (suc k) 0 ≡ 0) (eqb m 0) (place-clean mask (drop 1 bits) k e) (place-clean mask bits k e)
 
-pub at-most-drop : (m : ℕ) (xs : List ℕ) → T (atMost m xs) → T (atMost m (drop 1 xs))
-unfolding atMost
-at-most-drop m [] a = tt
-at-most-drop m (x ∷ xs) a = and-r (leb x m) (atMost m xs) a
-
-pub at-most-at : (m : ℕ) (xs : List ℕ) (k : ℕ) → T (atMost m xs) → getD xs k 0 ≤ m
-unfolding atMost
-at-most-at m [] k a = zero-le
-at-most-at m (x ∷ xs) zero a = leb→le x m (and-l (leb x m) (atMost m xs) a)
-at-most-at m (x ∷ xs) (suc k) a = at-most-at m xs k (and-r (leb x m) (atMost m xs) a)
-
 pub place-bits : (mask bits : List ℕ) → T (atMost 1 bits) → (k : ℕ) → getD (place mask bits) k 0 ≤ 1
 unfolding place
 place-bits [] bits a k = zero-le
 place-bits (m ∷ mask) bits a zero = cond-both (λ (u : List ℕ). getD u 0 0 ≤ 1) (eqb m 0) (at-most-at 1 bits 0 a) zero-le
 place-bits (m ∷ mask) bits a (suc k) =
-    cond-both (λ (u : List ℕ). getD u (suc k) 0 ≤ 1) (eqb m 0) (place-bits mask (drop 1 bits) (at-most-drop 1 bits a) k) (place-bits mask bits a k)
+    cond-both (λ (u : List ℕ). getD u (suc k) 0 ≤ 1) (eqb m 0) (place-bits mask (drop 1 bits) (at-most-drop 1 1 bits a) k) (place-bits mask bits a k)

@@ -1,9 +1,9 @@
 -- The transform, defined as the product by the polar matrix, by halves: upper and lower half added, then the lower half. It gives bits, it is linear, and it undoes itself.
 -- Assumes nothing.
-use mathlib.Core.Path.{_≡_, refl, sym, _∙_, ap, ap₂, subst}
+use mathlib.Core.Path.{_≡_, sym, _∙_, ap, ap₂, subst}
 use mathlib.Core.List.{List, [], _∷_, _++_}
 use Prim.Native.Nat.{ℕ, zero, suc, _+_, _*_, _/_, _%_, _^_, _<_, _≤_}
-use native.Mathlib.Nat.{add-assoc, add-comm, zero-add, add-zero, mul-zero, zero-mul, mul-one, one-mul, mul-add, mul-assoc, mul-comm, add-mod, mod-mod, div-eq-of-lt, mod-eq-of-lt, add-mul-div-right, add-mul-mod-self-right}
+use native.Mathlib.Nat.{add-assoc, add-comm, zero-add, mul-zero, zero-mul, one-mul, mul-add, mul-assoc, mul-comm, add-mod, mod-mod, div-eq-of-lt, mod-eq-of-lt, add-mul-div-right, add-mul-mod-self-right}
 use native.Mathlib.Omega.{arith}
 use lib.ListN.{getD, take, drop, length}
 use lib.Pow.{pow-pos}

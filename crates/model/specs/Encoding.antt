@@ -1,10 +1,11 @@
 -- Encoding: the polar matrix, the transform, and the payload's places. Assumes nothing.
 use Prim.Native.Nat.{ℕ, zero, suc, _+_, _*_, _/_, _%_, _^_}
-use mathlib.Core.Bool.{Bool, true, false, cond, _&&_}
+use mathlib.Core.Bool.{Bool, true, cond, _&&_}
 use mathlib.Core.List.{List, [], _∷_}
-use lib.Dec.{eqb}
-use lib.ListN.{getD, drop}
-use Rattle.model.specs.Lists.{tabulate, total, bit}
+use mathlib.Core.Path.{_≡_}
+use lib.Dec.{eqb, T}
+use lib.ListN.{getD, drop, length}
+use Rattle.model.specs.Lists.{tabulate, total, atMost, bit}
 
 -- the sum of two bits
 infixl 60 _⊕_
@@ -35,6 +36,15 @@ times m u A = tabulate m (λ j. total _+_ 0 m (λ i. getD u i 0 * A i j) % 2)
 -- the transform of u
 unfoldable pub transform : ℕ → List ℕ → List ℕ
 transform n u = times (2 ^ n) u (polarMatrix n)
+
+-- the largest mask byte
+abbrev pub maxMask : ℕ
+maxMask = 1
+
+-- a mask of 2 ^ n bytes
+pub record Mask (n : ℕ) (mask : List ℕ) : Type 0 where
+  pub sized : length mask ≡ 2 ^ n
+  pub bytes : T (atMost maxMask mask)
 
 -- a mask byte: 1 frozen, 0 unfrozen
 abbrev pub isUnfrozen : ℕ → Bool

@@ -1,10 +1,11 @@
 -- Plans, the walk that follows one, cycles, the planner. A node is given by its stage t, its number p and its part of the mask. Assumes nothing.
 use Prim.Native.Nat.{ℕ, zero, suc, _+_, _*_, _-_, _^_}
+use mathlib.Core.Path.{_≡_}
 use mathlib.Core.Bool.{Bool, true, false, cond, _&&_, not}
 use mathlib.Core.Option.{Option, none, some}
 use mathlib.Core.List.{List, [], _∷_, _++_, map}
 use lib.Dec.{eqb, ltb, T}
-use lib.ListN.{getD, take, drop, length}
+use lib.ListN.{getD, take, drop, length, replicate}
 use Rattle.model.specs.Lists.{tabulate, every, atMost, bit}
 use Rattle.model.specs.Soft.{Soft}
 use Rattle.model.specs.Scan.{Tree, leaf, node, message, left, right, toLeft, toRight, toNode, start, sweeps}
@@ -41,6 +42,10 @@ pub record Allowed (n : ℕ) (plan mask : List ℕ) : Type 0 where
   pub paths : T (oneCut n plan)
   pub kinds : T (cutsOfKinds plan n 1 mask)
 
+-- the plan that cuts the leaves
+unfoldable pub leafOnly : ℕ → List ℕ
+leafOnly n = replicate (2 ^ n) 0 ++ replicate (2 ^ n) 1
+
 -- ---- the walk that follows a plan
 
 -- a node's message is replaced, what is stored below it stays
@@ -64,6 +69,20 @@ walk plan (suc t) p mask T L =
 -- the root's message after k sweeps along a plan
 unfoldable pub planned : List ℕ → ℕ → List ℕ → List Soft → ℕ → List Soft
 planned plan n mask L k = message (sweeps (λ T. walk plan n 1 mask T L) k (start n mask))
+
+-- two states have the same messages at the cuts of a plan and above them; below a cut they may hold anything
+abbrev pub Agree : List ℕ → ℕ → ℕ → Tree → Tree → Type 0
+Agree plan zero p F P = message F ≡ message P
+Agree plan (suc t) p F P =
+    (message F ≡ message P)
+    × (isCut plan p ≡ false → Agree plan t (2 * p) (left F) (left P) × Agree plan t (2 * p + 1) (right F) (right P))
+
+-- the second state holds below each cut of a plan what the first does
+abbrev pub Stays : List ℕ → ℕ → ℕ → Tree → Tree → Type 0
+Stays plan zero p P Q = Unit {0}
+Stays plan (suc t) p P Q =
+    (isCut plan p ≡ true → (left Q ≡ left P) × (right Q ≡ right P))
+    × (isCut plan p ≡ false → Stays plan t (2 * p) (left P) (left Q) × Stays plan t (2 * p + 1) (right P) (right Q))
 
 -- ---- the latency model: cycles of one sweep
 

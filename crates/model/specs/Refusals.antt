@@ -1,15 +1,15 @@
 -- Turned-down calls: the table's rows, each call's number, and what a call leaves in each lent buffer. Assumes nothing.
 use Prim.Native.Nat.{ℕ, zero, suc, _+_, _*_, _^_}
-use mathlib.Core.Bool.{Bool, true, false, cond, not, _&&_}
+use mathlib.Core.Bool.{Bool, true, cond, not, _&&_}
 use mathlib.Core.List.{List, [], _∷_, map}
 use lib.Dec.{eqb, leb}
 use lib.IntN.{ℤ, pos, natAbs}
 use lib.ListN.{length, replicate}
 use lib.Ieee.{Float}
 use Rattle.model.specs.Lists.{atMost, over}
-use Rattle.model.specs.Soft.{Soft, finite, wordOf}
+use Rattle.model.specs.Soft.{finite, wordOf}
 use Rattle.model.specs.Samples.{isVariance, allReadable, llrsOf}
-use Rattle.model.specs.Encoding.{unfrozen, encode}
+use Rattle.model.specs.Encoding.{maxMask, unfrozen, encode}
 use Rattle.model.specs.Scan.{Decoded, decodeScan}
 use Rattle.model.specs.Kinds.{order}
 use Rattle.model.specs.Plans.{isPlan, oneCut, cutsOfKinds, cycles, plannerPlan, counts}
@@ -36,10 +36,6 @@ exponent N = exponentTo 10 N
 
 abbrev pub maxSweeps : ℕ
 maxSweeps = 16
-
--- the largest mask byte
-abbrev pub maxMask : ℕ
-maxMask = 1
 
 -- an LLR is within ±32767
 unfoldable pub llrsInRange : List ℤ → Bool

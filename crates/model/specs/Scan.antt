@@ -1,8 +1,11 @@
 -- SCAN by definition, walked down to the last leaf. A node of stage t has size 2 ^ t. Assumes nothing.
 -- "Message" is the literature's extrinsic message, "incoming list" its a-priori list.
-use Prim.Native.Nat.{ℕ, zero, suc, _+_, _^_}
-use mathlib.Core.Bool.{Bool, true, false, cond}
+use Prim.Native.Nat.{ℕ, zero, suc, _+_, _^_, _<_}
+use mathlib.Core.Path.{_≡_}
+use mathlib.Core.Bool.{cond}
 use mathlib.Core.List.{List, [], _∷_, _++_}
+use lib.Dec.{eqb}
+use lib.IntN.{ℤ, pos}
 use lib.ListN.{getD, take, drop}
 use Rattle.model.specs.Lists.{tabulate, bit}
 use Rattle.model.specs.Soft.{Soft, finite, certain, softZero, _at_, box, plus, negative}
@@ -92,3 +95,7 @@ decided n mask L s =
 -- SCAN: it takes a mask, LLRs and a number of sweeps, and knows no plan
 unfoldable pub decodeScan : ℕ → List ℕ → List Soft → ℕ → Decoded
 decodeScan n mask L k = decided n mask L (scan n mask L k)
+
+-- bit 0 is sent as +1, bit 1 as -1: no LLR is zero, and an LLR is negative exactly where the word has a 1
+abbrev pub SignsOf : ℕ → List ℕ → List ℤ → Type 0
+SignsOf n word llrs = (j : ℕ) → j < 2 ^ n → (getD llrs j (pos 0) ≡ pos 0 → ⊥) × (negative (getD llrs j (pos 0)) ≡ eqb (getD word j 0) 1)

@@ -1,8 +1,7 @@
 -- `inputs::at_most` meets its contract. The loop's invariant: the largest byte so far and the bytes that are left give the answer. Assumes nothing.
-use mathlib.Core.Path.{_≡_, refl, sym, _∙_, ap}
+use mathlib.Core.Path.{_≡_, sym, _∙_, ap}
 use mathlib.Core.Bool.{_&&_}
 use Prim.Native.Nat.{ℕ, _+_, _-_, _≤_}
-use native.Mathlib.Omega.{arith}
 use borrow.Author.Needs.{needs}
 use lib.Dec.{leb, leb·zero}
 use lib.ListN.{length, drop}

@@ -1,7 +1,6 @@
 -- `inputs::exponent_of` meets its contract. The loop's invariant: n is no larger power, and `power` is 2 ^ t. Assumes nothing.
-use mathlib.Core.Path.{_≡_, refl, sym, _∙_, ap}
-use Prim.Native.Nat.{ℕ, _+_, _-_, _≤_, _^_}
-use native.Mathlib.Omega.{arith}
+use mathlib.Core.Path.{_≡_, refl, sym, _∙_}
+use Prim.Native.Nat.{_≤_, _^_}
 use borrow.Author.Needs.{needs}
 use Rattle.model.specs.Refusals.{exponent, exponentTo}
 use Rattle.inputs.proofs.Folds.{exponent-here, exponent-below, exponent-none}

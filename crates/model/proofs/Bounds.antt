@@ -1,0 +1,307 @@
+-- Incoming values at stage t stay within B doubled with each stage below the root; finite messages within (2 ^ t - 1) times that. Assumes nothing.
+use mathlib.Core.Path.{_≡_, refl, sym, _∙_, ap, subst}
+use mathlib.Core.Bool.{Bool, true, false, cond, _&&_}
+use mathlib.Core.List.{List, [], _∷_}
+use Prim.Native.Nat.{ℕ, zero, suc, _+_, _*_, _-_, _^_, _<_, _≤_, min, zero-le, suc-le-suc}
+use native.Mathlib.Nat.{le-trans, le-of-eq, min-le-left, le-refl, mul-comm, mul-assoc, mul-one, suc-mul, add-comm, mul-le-mul-left, mul-le-mul-right}
+use native.Mathlib.Omega.{arith}
+use lib.Dec.{T, eqb, ltb, ltb→lt}
+use lib.ListN.{getD, take, drop}
+use lib.Pow.{suc-ones, pow-mono, pow-pos}
+use lib.IntN.{ℤ, pos, negsuc, natAbs, _+ℤ_, subℕ}
+use Rattle.model.specs.Lists.{tabulate, total}
+use Rattle.model.specs.Soft.{Soft, finite, certain, softZero, _at_, box, boxℤ, plus, signed, negative, differ}
+use Rattle.model.specs.Bounds.{Small, Under, cap, SmallAll, UnderAll, Within, Held, limit, AllUnder, ListSums, NodeSums, InRange}
+use Rattle.model.specs.Scan.{Tree, message, left, right, leafValue, start, toLeft, toRight, toNode, visit, sweeps, scan}
+use Rattle.model.proofs.Lists.{getD-tabulate, joined-lo, joined-hi, halves, only, and-l, and-r, absurd-bool, cond-both}
+use Rattle.model.specs.Kinds.{isSome, Kind, kindOf, shortcut}
+use mathlib.Core.Option.{some}
+use Rattle.model.proofs.Algebra.{plus-comm}
+use Rattle.model.specs.Plans.{isCut, wellCut, putKind, walk}
+use Rattle.model.proofs.Shortcuts.{kind-visit, sound-start}
+use Rattle.model.proofs.Paths.{wellCut-cut, wellCut-through, well-l, well-r}
+use Rattle.model.proofs.PlannedWalk.{walk-cut, walk-through, cut-message}
+
+pub abs-signed : (s : Bool) (n : ℕ) → natAbs (signed s n) ≡ n
+abs-signed false n = refl
+abs-signed true zero = refl
+abs-signed true (suc n) = refl
+
+pub abs-sub : (a b : ℕ) → natAbs (subℕ a b) ≤ a + b
+abs-sub a b = go (ltb a b) refl
+  where
+    go : (c : Bool) → ltb a b ≡ c → natAbs (cond c (negsuc (b - suc a)) (pos (a - b))) ≤ a + b
+    go true e = let l : a < b = ltb→lt a b (subst T (sym e) tt) in omega arith
+    go false e = omega arith
+
+pub abs-plus : (a b : ℤ) → natAbs (a +ℤ b) ≤ natAbs a + natAbs b
+abs-plus (pos a) (pos b) = le-refl (a + b)
+abs-plus (pos a) (negsuc b) = abs-sub a (suc b)
+abs-plus (negsuc a) (pos b) = le-trans (abs-sub b (suc a)) (omega arith)
+abs-plus (negsuc a) (negsuc b) = omega arith
+
+pub small-box : (B : ℕ) (x y : Soft) → Small B x → Small B (box x y)
+unfolding box boxℤ
+small-box B certain y s = absurd s
+small-box B (finite a) certain s = s
+small-box B (finite a) (finite b) s =
+    rw (abs-signed (differ (negative a) (negative b)) (min (natAbs a) (natAbs b))) (le-trans (min-le-left (natAbs a) (natAbs b)) s)
+
+pub under-box : (c : ℕ) (x y : Soft) → Under c x → Under c y → Under c (box x y)
+unfolding box boxℤ
+under-box c certain y s u = u
+under-box c (finite a) certain s u = s
+under-box c (finite a) (finite b) s u =
+    rw (abs-signed (differ (negative a) (negative b)) (min (natAbs a) (natAbs b))) (le-trans (min-le-left (natAbs a) (natAbs b)) s)
+
+pub small-mono : {B C : ℕ} (x : Soft) → B ≤ C → Small B x → Small C x
+small-mono certain l s = s
+small-mono (finite z) l s = le-trans s l
+
+pub small-add : (B C : ℕ) (x y : Soft) → Small B x → Small C y → Small (B + C) (plus x y)
+unfolding plus
+small-add B C certain y s u = absurd s
+small-add B C (finite a) certain s u = absurd u
+small-add B C (finite a) (finite b) s u = let h : natAbs (a +ℤ b) ≤ natAbs a + natAbs b = abs-plus a b in omega arith
+
+pub small-plus : (B : ℕ) (x y : Soft) → Small B x → Small B y → Small (2 * B) (plus x y)
+small-plus B x y s u = small-mono (plus x y) (omega arith) (small-add B B x y s u)
+
+pub under-plus : (B c : ℕ) (x y : Soft) → Small B x → Under c y → Under (B + c) (plus x y)
+unfolding plus
+under-plus B c certain y s u = absurd s
+under-plus B c (finite a) certain s u = tt
+under-plus B c (finite a) (finite b) s u = let h : natAbs (a +ℤ b) ≤ natAbs a + natAbs b = abs-plus a b in omega arith
+
+pub under-mono : {B C : ℕ} (x : Soft) → B ≤ C → Under B x → Under C x
+under-mono certain l s = tt
+under-mono (finite z) l s = le-trans s l
+
+pub cap-suc : (t B : ℕ) → cap (suc t) B ≡ B + cap t (2 * B)
+cap-suc t B = ap (λ (n : ℕ). n * B) (e (2 ^ t - 1) (suc-ones t)) ∙ m (2 ^ t - 1)
+  where
+    e : (q : ℕ) → suc q ≡ 2 ^ t → 2 ^ suc t - 1 ≡ suc (2 * q)
+    e q h = omega arith
+
+    m : (q : ℕ) → suc (2 * q) * B ≡ B + q * (2 * B)
+    m q = omega arith
+
+pub within-message : (t B : ℕ) (T : Tree) → Within t B T → UnderAll t (cap t B) (message T)
+within-message zero B T w = w
+within-message (suc t) B T w = w .0
+
+module _ (t B : ℕ) (L : List Soft) (S : SmallAll (suc t) B L) where
+  lo : (k : ℕ) → k < 2 ^ t → Small B (L at k)
+  lo k h = S k (omega arith)
+
+  hi : (k : ℕ) → k < 2 ^ t → Small B (L at (k + 2 ^ t))
+  hi k h = S (k + 2 ^ t) (omega arith)
+
+  pub small-toLeft : (r : List Soft) → SmallAll t (2 * B) (toLeft (2 ^ t) L r)
+  unfolding toLeft
+  small-toLeft r k h =
+      rw (getD-tabulate (2 ^ t) (λ k. box (L at k) (plus (L at (k + 2 ^ t)) (r at k))) k softZero h)
+      (small-mono (box (L at k) (plus (L at (k + 2 ^ t)) (r at k))) (omega arith) (small-box B (L at k) (plus (L at (k + 2 ^ t)) (r at k)) (lo k h)))
+
+  pub small-toRight : (l : List Soft) → SmallAll t (2 * B) (toRight (2 ^ t) L l)
+  unfolding toRight
+  small-toRight l k h =
+      rw (getD-tabulate (2 ^ t) (λ k. plus (box (L at k) (l at k)) (L at (k + 2 ^ t))) k softZero h)
+      (small-plus B (box (L at k) (l at k)) (L at (k + 2 ^ t)) (small-box B (L at k) (l at k) (lo k h)) (hi k h))
+
+  pub under-toNode : (l r : List Soft) → UnderAll t (cap t (2 * B)) l → UnderAll t (cap t (2 * B)) r → UnderAll (suc t) (cap (suc t) B) (toNode (2 ^ t) L l r)
+  unfolding toNode
+  under-toNode l r Ul Ur =
+      halves t (λ k. Under (cap (suc t) B) (toNode (2 ^ t) L l r at k))
+      (λ k h. rw (joined-lo (2 ^ t) (λ k. box (l at k) (plus (L at (k + 2 ^ t)) (r at k))) (tabulate (2 ^ t) (λ k. plus (r at k) (box (L at k) (l at k)))) k softZero h, cap-suc t B)
+      (under-box (B + cap t (2 * B)) (l at k) (plus (L at (k + 2 ^ t)) (r at k)) (under-mono (l at k) (omega arith) (Ul k h)) (under-plus B (cap t (2 * B)) (L at (k + 2 ^ t)) (r at k) (hi k h) (Ur k h))))
+      (λ k h. rw (joined-hi (2 ^ t) (λ k. box (l at k) (plus (L at (k + 2 ^ t)) (r at k))) (tabulate (2 ^ t) (λ k. plus (r at k) (box (L at k) (l at k)))) k softZero, getD-tabulate (2 ^ t) (λ k. plus (r at k) (box (L at k) (l at k))) k softZero h, cap-suc t B, plus-comm (r at k) (box (L at k) (l at k)))
+      (under-plus B (cap t (2 * B)) (box (L at k) (l at k)) (r at k) (small-box B (L at k) (l at k) (lo k h)) (Ur k h)))
+
+pub within-visit : (t B : ℕ) (T : Tree) (L : List Soft) → SmallAll t B L → Within t B T → Within t B (visit t T L)
+unfolding visit
+within-visit zero B T L S w = w
+within-visit (suc t) B T L S w =
+    let l : Tree = visit t (left T) (toLeft (2 ^ t) L (message (right T))) in
+    let r : Tree = visit t (right T) (toRight (2 ^ t) L (message l)) in
+    let wl : Within t (2 * B) l = within-visit t (2 * B) (left T) (toLeft (2 ^ t) L (message (right T))) (small-toLeft t B L S (message (right T))) (w .1) in
+    let wr : Within t (2 * B) r = within-visit t (2 * B) (right T) (toRight (2 ^ t) L (message l)) (small-toRight t B L S (message l)) (w .2) in
+    (under-toNode t B L S (message l) (message r) (within-message t (2 * B) l wl) (within-message t (2 * B) r wr), wl, wr)
+
+pub under-leaf : (b c : ℕ) → Under c (leafValue b)
+unfolding leafValue
+under-leaf b c = go (eqb b 0)
+  where
+    go : (x : Bool) → Under c (cond x softZero certain)
+    go true = omega arith
+    go false = tt
+
+pub within-start : (t B : ℕ) (mask : List ℕ) → Within t B (start t mask)
+unfolding start
+within-start zero B mask = only (λ k. Under (cap zero B) ((leafValue (getD mask 0 0) ∷ []) at k)) (under-leaf (getD mask 0 0) (cap zero B))
+within-start (suc t) B mask =
+    (λ k h. rw (getD-tabulate (2 ^ suc t) (λ k. softZero) k softZero h) (omega arith), within-start t (2 * B) (take (2 ^ t) mask), within-start t (2 * B) (drop (2 ^ t) mask))
+
+pub within-sweeps : (t B : ℕ) (L : List Soft) → SmallAll t B L → (n : ℕ) (T : Tree) → Within t B T → Within t B (sweeps (λ X. visit t X L) n T)
+unfolding sweeps
+within-sweeps t B L S zero T w = w
+within-sweeps t B L S (suc n) T w = within-sweeps t B L S n (visit t T L) (within-visit t B T L S w)
+
+-- a shortcut's message is within the same bound: it is the message of a visit from the start
+pub shortcut-under : (t B : ℕ) (mask : List ℕ) (k : Kind) (L : List Soft) → kindOf (2 ^ t) mask ≡ some k → SmallAll t B L → UnderAll t (cap t B) (shortcut k (2 ^ t) L)
+shortcut-under t B mask k L e S =
+    subst (UnderAll t (cap t B)) (kind-visit t mask k (start t mask) L e (sound-start t mask))
+    (within-message t B (visit t (start t mask) L) (within-visit t B (start t mask) L S (within-start t B mask)))
+
+pub held-message : (plan : List ℕ) (t p B : ℕ) (P : Tree) → Held plan t p B P → UnderAll t (cap t B) (message P)
+held-message plan zero p B P H = H
+held-message plan (suc t) p B P H = H .0
+
+pub within-held : (plan : List ℕ) (t p B : ℕ) (P : Tree) → Within t B P → Held plan t p B P
+within-held plan zero p B P w = w
+within-held plan (suc t) p B P w = (w .0, λ e. (within-held plan t (2 * p) (2 * B) (left P) (w .1), within-held plan t (2 * p + 1) (2 * B) (right P) (w .2)))
+
+-- a cut node's message
+pub put-under : (t B : ℕ) (mask : List ℕ) (P : Tree) (L : List Soft) → T (isSome (kindOf (2 ^ t) mask)) → SmallAll t B L
+    → UnderAll t (cap t B) (message (putKind (kindOf (2 ^ t) mask) (2 ^ t) L P))
+put-under t B mask P L k S =
+    subst (UnderAll t (cap t B)) (cut-message t mask (start t mask) P L k (sound-start t mask))
+    (within-message t B (visit t (start t mask) L) (within-visit t B (start t mask) L S (within-start t B mask)))
+
+abbrev pub HeldStep : List ℕ → ℕ → ℕ → List ℕ → Type 0
+HeldStep plan t p mask = (B : ℕ) (P : Tree) (L : List Soft) → T (wellCut plan t p mask) → SmallAll t B L → Held plan t p B P → Held plan t p B (walk plan t p mask P L)
+
+held-through : (plan : List ℕ) (t p : ℕ) (mask : List ℕ) → isCut plan p ≡ false → HeldStep plan t (2 * p) (take (2 ^ t) mask) → HeldStep plan t (2 * p + 1) (drop (2 ^ t) mask)
+    → HeldStep plan (suc t) p mask
+held-through plan t p mask e hl hr B P L w S H =
+    let ww : T (wellCut plan t (2 * p) (take (2 ^ t) mask) && wellCut plan t (2 * p + 1) (drop (2 ^ t) mask)) = wellCut-through plan t p mask e w in
+    let l : Tree = walk plan t (2 * p) (take (2 ^ t) mask) (left P) (toLeft (2 ^ t) L (message (right P))) in
+    let r : Tree = walk plan t (2 * p + 1) (drop (2 ^ t) mask) (right P) (toRight (2 ^ t) L (message l)) in
+    let Hl : Held plan t (2 * p) (2 * B) l =
+    hl (2 * B) (left P) (toLeft (2 ^ t) L (message (right P))) (and-l (wellCut plan t (2 * p) (take (2 ^ t) mask)) (wellCut plan t (2 * p + 1) (drop (2 ^ t) mask)) ww)
+    (small-toLeft t B L S (message (right P))) (H .1 e .0) in
+    let Hr : Held plan t (2 * p + 1) (2 * B) r =
+    hr (2 * B) (right P) (toRight (2 ^ t) L (message l)) (and-r (wellCut plan t (2 * p) (take (2 ^ t) mask)) (wellCut plan t (2 * p + 1) (drop (2 ^ t) mask)) ww)
+    (small-toRight t B L S (message l)) (H .1 e .1) in
+    subst (Held plan (suc t) p B) (sym (walk-through plan t p mask P L e))
+    (under-toNode t B L S (message l) (message r) (held-message plan t (2 * p) (2 * B) l Hl) (held-message plan t (2 * p + 1) (2 * B) r Hr), λ _. (Hl, Hr))
+
+pub held-walk : (plan : List ℕ) (t p : ℕ) (mask : List ℕ) → HeldStep plan t p mask
+unfolding walk wellCut
+held-walk plan zero p mask = λ B P L w S H. put-under zero B mask P L (and-r (isCut plan p) (isSome (kindOf 1 mask)) w) S
+held-walk plan (suc t) p mask = go (isCut plan p) refl (held-walk plan t (2 * p) (take (2 ^ t) mask)) (held-walk plan t (2 * p + 1) (drop (2 ^ t) mask))
+  where
+    go : (b : Bool) → isCut plan p ≡ b → HeldStep plan t (2 * p) (take (2 ^ t) mask) → HeldStep plan t (2 * p + 1) (drop (2 ^ t) mask) → HeldStep plan (suc t) p mask
+    go true e hl hr = λ B P L w S H. (
+      subst (UnderAll (suc t) (cap (suc t) B)) (ap message (sym (walk-cut plan t p mask P L e))) (put-under (suc t) B mask P L (wellCut-cut plan t p mask e w) S),
+      λ q. absurd (absurd-bool (isCut plan p) e q),
+    )
+    go false e hl hr = held-through plan t p mask e hl hr
+
+-- ---- across all sweeps
+pub held-sweeps : (plan : List ℕ) (t : ℕ) (mask : List ℕ) (B : ℕ) (L : List Soft) → T (wellCut plan t 1 mask) → SmallAll t B L → (k : ℕ) (P : Tree)
+    → Held plan t 1 B P → Held plan t 1 B (sweeps (λ X. walk plan t 1 mask X L) k P)
+unfolding sweeps
+held-sweeps plan t mask B L w S zero P H = H
+held-sweeps plan t mask B L w S (suc k) P H = held-sweeps plan t mask B L w S k (walk plan t 1 mask P L) (held-walk plan t 1 mask B P L w S H)
+
+pub soft-under : (n : ℕ) (mask : List ℕ) (L : List Soft) → SmallAll n 32767 L → (k : ℕ) → UnderAll n (cap n 32767) (scan n mask L k)
+unfolding scan
+soft-under n mask L S k =
+    within-message n 32767 (sweeps (λ X. visit n X L) k (start n mask)) (within-sweeps n 32767 L S k (start n mask) (within-start n 32767 mask))
+
+pub cap-limit : (n : ℕ) → n ≤ 10 → 32767 + cap n 32767 ≤ limit
+cap-limit n h = let m : 2 ^ n ≤ 1024 = pow-mono h in let p : 0 < 2 ^ n = pow-pos n in omega arith
+
+-- ---- every sum is within the limit
+cap-below : (t B : ℕ) → cap t B ≤ B * 2 ^ t
+cap-below t B = le-trans (mul-le-mul-right B (omega arith)) (le-of-eq (mul-comm (2 ^ t) B))
+
+small-total : (B n : ℕ) (f : ℕ → Soft) → ((k : ℕ) → k < n → Small B (f k)) → Small (n * B) (total plus softZero n f)
+unfolding total
+small-total B zero f s = omega arith
+small-total B (suc n) f s =
+    small-mono (plus (f 0) (total plus softZero n (λ k. f (suc k)))) (le-of-eq (sym (suc-mul n B ∙ add-comm (n * B) B)))
+    (small-add B (n * B) (f 0) (total plus softZero n (λ k. f (suc k))) (s 0 (omega arith)) (small-total B n (λ k. f (suc k)) (λ k h. s (suc k) (suc-le-suc h))))
+
+list-sums : (t B : ℕ) (L : List Soft) → B * 2 ^ t ≤ limit → SmallAll t B L → ListSums t L
+list-sums t B L room S c =
+    small-mono (total plus softZero (2 ^ t) (λ j. cond (c j) (L at j) softZero)) (le-trans (le-of-eq (mul-comm (2 ^ t) B)) room)
+    (small-total B (2 ^ t) (λ j. cond (c j) (L at j) softZero) (λ k h. cond-both (Small B) (c k) (S k h) zero-le))
+
+node-sums : (t B : ℕ) (L r₀ l r : List Soft) → B * 2 ^ suc t ≤ limit → SmallAll (suc t) B L
+    → UnderAll t (cap t (2 * B)) r₀ → UnderAll t (cap t (2 * B)) r → NodeSums (2 ^ t) L r₀ l r
+node-sums t B L r₀ l r room S U₀ U k h = (
+  added r₀ U₀,
+  small-mono (plus (box (L at k) (l at k)) (L at (k + 2 ^ t))) twice (small-add B B (box (L at k) (l at k)) (L at (k + 2 ^ t)) first (hi t B L S k h)),
+  added r U,
+  subst (Under limit) (plus-comm (box (L at k) (l at k)) (r at k)) (under-mono (plus (box (L at k) (l at k)) (r at k)) within (under-plus B (cap t (2 * B)) (box (L at k) (l at k)) (r at k) first (U k h))),
+)
+  where
+    within : B + cap t (2 * B) ≤ limit
+    within = le-trans (le-of-eq (sym (cap-suc t B))) (le-trans (cap-below (suc t) B) room)
+
+    twice : B + B ≤ limit
+    twice = le-trans (le-trans (le-of-eq (double-is B)) (mul-le-mul-left B (two t (pow-pos t)))) room
+      where
+        double-is : (B : ℕ) → B + B ≡ B * 2
+        double-is B = omega arith
+
+        two : (t : ℕ) → 0 < 2 ^ t → 2 ≤ 2 ^ suc t
+        two t p = omega arith
+
+    first : Small B (box (L at k) (l at k))
+    first = small-box B (L at k) (l at k) (lo t B L S k h)
+
+    added : (m : List Soft) → UnderAll t (cap t (2 * B)) m → Under limit (plus (L at (k + 2 ^ t)) (m at k))
+    added m W = under-mono (plus (L at (k + 2 ^ t)) (m at k)) within (under-plus B (cap t (2 * B)) (L at (k + 2 ^ t)) (m at k) (hi t B L S k h) (W k h))
+
+doubled-room : (t B : ℕ) → 2 * B * 2 ^ t ≡ B * 2 ^ suc t
+doubled-room t B = ap (λ (x : ℕ). x * 2 ^ t) (mul-comm 2 B) ∙ mul-assoc B 2 (2 ^ t) ∙ ap (λ (x : ℕ). B * x) (twofold t)
+  where
+    twofold : (t : ℕ) → 2 * 2 ^ t ≡ 2 ^ suc t
+    twofold t = omega arith
+
+pub within-all : (t B : ℕ) (T : Tree) → B * 2 ^ t ≤ limit → Within t B T → AllUnder limit t T
+within-all zero B T room w = λ k h. under-mono (message T at k) (le-trans (cap-below zero B) room) (w k h)
+within-all (suc t) B T room w =
+    let half : 2 * B * 2 ^ t ≤ limit = le-trans (le-of-eq (doubled-room t B)) room in
+    (λ k h. under-mono (message T at k) (le-trans (cap-below (suc t) B) room) (w .0 k h), within-all t (2 * B) (left T) half (w .1), within-all t (2 * B) (right T) half (w .2))
+
+abbrev RangeStep : List ℕ → ℕ → ℕ → List ℕ → Type 0
+RangeStep plan t p mask =
+    (B : ℕ) (P : Tree) (L : List Soft) → B * 2 ^ t ≤ limit → T (wellCut plan t p mask) → SmallAll t B L → Held plan t p B P → InRange plan t p mask P L
+
+in-limit : (t B : ℕ) (L : List Soft) → B * 2 ^ t ≤ limit → SmallAll t B L → SmallAll t limit L
+in-limit t B L room S k h = small-mono (L at k) (le-trans (le-trans (le-of-eq (sym (mul-one B))) (mul-le-mul-left B (pow-pos t))) room) (S k h)
+
+range-through : (plan : List ℕ) (t p : ℕ) (mask : List ℕ) → isCut plan p ≡ false → RangeStep plan t (2 * p) (take (2 ^ t) mask) → RangeStep plan t (2 * p + 1) (drop (2 ^ t) mask)
+    → RangeStep plan (suc t) p mask
+range-through plan t p mask e rl rr B P L room w S H =
+    let a : List ℕ = take (2 ^ t) mask in
+    let b : List ℕ = drop (2 ^ t) mask in
+    let wl : T (wellCut plan t (2 * p) a) = well-l plan t p mask e w in
+    let wr : T (wellCut plan t (2 * p + 1) b) = well-r plan t p mask e w in
+    let l : Tree = walk plan t (2 * p) a (left P) (toLeft (2 ^ t) L (message (right P))) in
+    let r : Tree = walk plan t (2 * p + 1) b (right P) (toRight (2 ^ t) L (message l)) in
+    let half : 2 * B * 2 ^ t ≤ limit = le-trans (le-of-eq (doubled-room t B)) room in
+    let Sl : SmallAll t (2 * B) (toLeft (2 ^ t) L (message (right P))) = small-toLeft t B L S (message (right P)) in
+    let Sr : SmallAll t (2 * B) (toRight (2 ^ t) L (message l)) = small-toRight t B L S (message l) in
+    let Hr : Held plan t (2 * p + 1) (2 * B) r = held-walk plan t (2 * p + 1) b (2 * B) (right P) (toRight (2 ^ t) L (message l)) wr Sr (H .1 e .1) in (
+      in-limit (suc t) B L room S,
+      λ q. absurd (absurd-bool (isCut plan p) q e),
+      λ _. (
+        node-sums t B L (message (right P)) (message l) (message r) room S
+            (held-message plan t (2 * p + 1) (2 * B) (right P) (H .1 e .1)) (held-message plan t (2 * p + 1) (2 * B) r Hr),
+        rl (2 * B) (left P) (toLeft (2 ^ t) L (message (right P))) half wl Sl (H .1 e .0),
+        rr (2 * B) (right P) (toRight (2 ^ t) L (message l)) half wr Sr (H .1 e .1),
+      ),
+    )
+
+pub in-range : (plan : List ℕ) (t p : ℕ) (mask : List ℕ) → RangeStep plan t p mask
+in-range plan zero p mask = λ B P L room w S H. in-limit zero B L room S
+in-range plan (suc t) p mask = go (isCut plan p) refl (in-range plan t (2 * p) (take (2 ^ t) mask)) (in-range plan t (2 * p + 1) (drop (2 ^ t) mask))
+  where
+    go : (b : Bool) → isCut plan p ≡ b → RangeStep plan t (2 * p) (take (2 ^ t) mask) → RangeStep plan t (2 * p + 1) (drop (2 ^ t) mask) → RangeStep plan (suc t) p mask
+    go true e rl rr = λ B P L room w S H. (in-limit (suc t) B L room S, λ _. list-sums (suc t) B L room S, λ q. absurd (absurd-bool (isCut plan p) e q))
+    go false e rl rr = range-through plan t p mask e rl rr

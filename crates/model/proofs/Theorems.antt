@@ -1,0 +1,122 @@
+-- The theorems over document 01's definitions, for every N = 2 ^ n, mask, plan, number of sweeps k and list L of LLRs.
+-- The other files of this folder lead to them. Assumes nothing.
+use mathlib.Core.Path.{_≡_, sym, ap}
+use mathlib.Core.Logic.{_⊎_, inl, inr}
+use mathlib.Core.Bool.{_&&_}
+use mathlib.Core.List.{List, map}
+use Prim.Native.Nat.{ℕ, suc, _*_, _-_, _^_, _<_, _≤_}
+use native.Mathlib.Omega.{arith}
+use lib.Dec.{T}
+use lib.IntN.{ℤ}
+use lib.ListN.{length}
+use lib.Pow.{pow-mono}
+use Rattle.model.specs.Lists.{atMost}
+use Rattle.model.specs.Soft.{Soft, finite, _at_, plus}
+use Rattle.model.specs.Encoding.{Mask, unfrozen, encode}
+use Rattle.model.specs.Scan.{Tree, message, start, visit, sweeps, scan, decided, decodeScan, SignsOf}
+use Rattle.model.specs.Plans.{oneCut, cutsOfKinds, wellCut, Allowed, leafOnly, walk, planned, Agree, Stays, cycles, plannerPlan, cutsBelow}
+use Rattle.model.specs.Bounds.{SmallAll, Under, AllUnder, InRange, limit, cap}
+use Rattle.model.proofs.Shortcuts.{sound-start}
+use Rattle.model.proofs.Paths.{wellCut-test, allowed-cuts}
+use Rattle.model.proofs.PlannedWalk.{agree-message, agree-same, sweeps-agree, sweeps-stay}
+use Rattle.model.proofs.Cycles.{cycles-bound}
+use Rattle.model.proofs.Planner.{Same, planner-allowed, planner-chosen, cycles-least, same-or-more, same-list}
+use Rattle.model.proofs.LeafOnly.{leafOnly-allowed, leafOnly-cycles}
+use Rattle.model.proofs.Signs.{signs-hard, signs-payload, signs-check}
+use Rattle.model.proofs.Bounds.{within-sweeps, within-start, within-all, within-held, held-sweeps, in-range, soft-under, under-plus, under-mono, cap-limit}
+
+-- ---- 1. Every accepted decode, whichever allowed plan it is given, equals SCAN walked to the last leaf.
+
+-- From any stored state that agrees with the start at and above the cuts, whatever it holds below them, the walk agrees with SCAN there after k sweeps.
+pub plan-agrees : (n : ℕ) (plan mask : List ℕ) → Allowed n plan mask → (L : List Soft) (k : ℕ) (P : Tree) → Agree plan n 1 (start n mask) P
+    → Agree plan n 1 (sweeps (λ T. visit n T L) k (start n mask)) (sweeps (λ T. walk plan n 1 mask T L) k P)
+plan-agrees n plan mask W L k P A = sweeps-agree plan n mask L (allowed-cuts n plan mask W) k (start n mask) P (sound-start n mask) A
+
+pub soft-from : (n : ℕ) (plan mask : List ℕ) → Allowed n plan mask → (L : List Soft) (k : ℕ) (P : Tree) → Agree plan n 1 (start n mask) P
+    → message (sweeps (λ T. walk plan n 1 mask T L) k P) ≡ scan n mask L k
+unfolding scan
+soft-from n plan mask W L k P A =
+    sym (agree-message plan n 1 (sweeps (λ T. visit n T L) k (start n mask)) (sweeps (λ T. walk plan n 1 mask T L) k P) (plan-agrees n plan mask W L k P A))
+
+pub soft-same : (n : ℕ) (plan mask : List ℕ) → Allowed n plan mask → (L : List Soft) (k : ℕ) → planned plan n mask L k ≡ scan n mask L k
+unfolding planned
+soft-same n plan mask W L k = soft-from n plan mask W L k (start n mask) (agree-same plan n 1 (start n mask))
+
+pub decode-same : (n : ℕ) (plan mask : List ℕ) → Allowed n plan mask → (L : List Soft) (k : ℕ) → decided n mask L (planned plan n mask L k) ≡ decodeScan n mask L k
+unfolding decodeScan
+decode-same n plan mask W L k = ap (decided n mask L) (soft-same n plan mask W L k)
+
+-- What is stored below a cut stays, whatever the plan.
+pub below-stays : (n : ℕ) (plan mask : List ℕ) (L : List Soft) (k : ℕ) (P : Tree) → Stays plan n 1 P (sweeps (λ T. walk plan n 1 mask T L) k P)
+below-stays n plan mask L k P = sweeps-stay plan n mask L k P
+
+-- ---- 2. Cycles, and the planner.
+
+-- The recursion that the code follows tests what document 01 words: every path from root to leaf has exactly one cut, and a cut node is of some kind.
+pub cuts-test : (n : ℕ) (plan mask : List ℕ) → wellCut plan n 1 mask ≡ (oneCut n plan && cutsOfKinds plan n 1 mask)
+cuts-test = wellCut-test
+
+-- At most 4N - 6.
+pub cycles-most : (t : ℕ) (plan mask : List ℕ) → Allowed (suc t) plan mask → cycles plan (suc t) 1 mask ≤ 4 * 2 ^ suc t - 6
+cycles-most t plan mask A = cycles-bound plan t 1 mask (allowed-cuts (suc t) plan mask A)
+
+-- Leaf-only plans cost 4N - 6.
+pub leaves-allowed : (n : ℕ) (mask : List ℕ) → Mask n mask → Allowed n (leafOnly n) mask
+leaves-allowed = leafOnly-allowed
+
+pub leaves-cycles : (t : ℕ) (mask : List ℕ) → Mask (suc t) mask → cycles (leafOnly (suc t)) (suc t) 1 mask ≡ 4 * 2 ^ suc t - 6
+leaves-cycles = leafOnly-cycles
+
+-- The planner's plan is allowed, least in cycles, and every other allowed plan has more cuts.
+pub plan-allowed : (n : ℕ) (mask : List ℕ) → Mask n mask → Allowed n (plannerPlan n mask) mask
+plan-allowed = planner-allowed
+
+pub plan-least : (t : ℕ) (mask : List ℕ) → Mask (suc t) mask → (Q : List ℕ) → Allowed (suc t) Q mask
+    → cycles (plannerPlan (suc t) mask) (suc t) 1 mask ≤ cycles Q (suc t) 1 mask
+plan-least t mask M Q A =
+    cycles-least (plannerPlan (suc t) mask) Q t 1 mask
+    (allowed-cuts (suc t) (plannerPlan (suc t) mask) mask (planner-allowed (suc t) mask M)) (planner-chosen (suc t) mask) (allowed-cuts (suc t) Q mask A)
+
+pub plan-fewest : (n : ℕ) (mask : List ℕ) → Mask n mask → (Q : List ℕ) → Allowed n Q mask → (plannerPlan n mask ≡ Q → ⊥)
+    → cutsBelow (plannerPlan n mask) n 1 < cutsBelow Q n 1
+plan-fewest n mask M Q A other =
+    go (same-or-more (plannerPlan n mask) Q n 1 mask (allowed-cuts n (plannerPlan n mask) mask (planner-allowed n mask M)) (planner-chosen n mask) (allowed-cuts n Q mask A))
+  where
+    go : Same (plannerPlan n mask) Q n 1 ⊎ cutsBelow (plannerPlan n mask) n 1 < cutsBelow Q n 1 → cutsBelow (plannerPlan n mask) n 1 < cutsBelow Q n 1
+    go (inl s) = absurd (other (same-list n mask (plannerPlan n mask) Q (planner-allowed n mask M) A s))
+    go (inr h) = h
+
+-- ---- 3. Non-zero LLRs with the signs of an encoded word decode to that word and its payload, with frozen check 1.
+pub signs-decode : (n : ℕ) (mask payload : List ℕ) (llrs : List ℤ) → length mask ≡ 2 ^ n → length payload ≡ unfrozen mask → T (atMost 1 payload)
+    → SignsOf n (encode n mask payload) llrs → (k : ℕ)
+    → (decodeScan n mask (map finite llrs) k .hard ≡ encode n mask payload)
+    × (decodeScan n mask (map finite llrs) k .payload ≡ payload)
+    × (decodeScan n mask (map finite llrs) k .check ≡ 1)
+signs-decode n mask payload llrs sized fits bits signs k =
+    (signs-hard n mask payload llrs sized fits bits signs k, signs-payload n mask payload llrs sized fits bits signs k, signs-check n mask payload llrs sized fits bits signs k)
+
+-- ---- 4. Bounds, for LLRs within ±32767 and N at most 1024.
+room : (n : ℕ) → n ≤ 10 → 32767 * 2 ^ n ≤ limit
+room n h = let m : 2 ^ n ≤ 1024 = pow-mono h in omega arith
+
+-- Every message of SCAN is certain or within 32767 × 1024.
+pub messages-bound : (n : ℕ) → n ≤ 10 → (mask : List ℕ) (L : List Soft) → SmallAll n 32767 L → (k : ℕ) → AllUnder limit n (sweeps (λ T. visit n T L) k (start n mask))
+messages-bound n h mask L S k =
+    within-all n 32767 (sweeps (λ T. visit n T L) k (start n mask)) (room n h) (within-sweeps n 32767 L S k (start n mask) (within-start n 32767 mask))
+
+-- In each sweep along an allowed plan no incoming list has a certain value, and every incoming value and every sum is within 32767 × 1024.
+pub sums-bound : (n : ℕ) → n ≤ 10 → (plan mask : List ℕ) → Allowed n plan mask → (L : List Soft) → SmallAll n 32767 L → (k : ℕ)
+    → InRange plan n 1 mask (sweeps (λ T. walk plan n 1 mask T L) k (start n mask)) L
+sums-bound n h plan mask A L S k =
+    in-range plan n 1 mask 32767 (sweeps (λ T. walk plan n 1 mask T L) k (start n mask)) L (room n h) (allowed-cuts n plan mask A) S
+    (held-sweeps plan n mask 32767 L (allowed-cuts n plan mask A) S k (start n mask) (within-held plan n 1 32767 (start n mask) (within-start n 32767 mask)))
+
+-- So is LLR plus soft.
+pub decision-bound : (n : ℕ) → n ≤ 10 → (mask : List ℕ) (L : List Soft) → SmallAll n 32767 L → (k j : ℕ) → j < 2 ^ n → Under limit (plus (L at j) (scan n mask L k at j))
+decision-bound n h mask L S k j l =
+    under-mono (plus (L at j) (scan n mask L k at j)) (cap-limit n h)
+    (under-plus 32767 (cap n 32767) (L at j) (scan n mask L k at j) (S j l) (soft-under n mask L S k j l))
+
+-- The limit, and twice the limit, fit in 32 bits with the sign, below the mark.
+pub limit-fits : 2 * limit < 2147483647
+limit-fits = omega arith
