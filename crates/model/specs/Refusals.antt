@@ -34,17 +34,20 @@ exponentTo (suc t) N = cond (eqb N (2 ^ suc t)) (suc t) (exponentTo t N)
 abbrev pub exponent : ℕ → ℕ
 exponent N = exponentTo 10 N
 
+-- sweeps run from 1 to this
 abbrev pub maxSweeps : ℕ
 maxSweeps = 16
 
--- an LLR is within ±32767
+-- LLRs within ±32767; of 16-bit LLRs only -32768 is not
 unfoldable pub llrsInRange : List ℤ → Bool
 llrsInRange [] = true
 llrsInRange (z ∷ zs) = leb (natAbs z) 32767 && llrsInRange zs
 
+-- the number of mask bytes or samples is an allowed N
 abbrev pub row-1 : ℕ → Test
 row-1 N = test 1 (not (eqb (exponent N) 0))
 
+-- no mask byte is too large
 abbrev pub row-2 : List ℕ → Test
 row-2 mask = test 2 (atMost maxMask mask)
 
@@ -52,24 +55,31 @@ row-2 mask = test 2 (atMost maxMask mask)
 abbrev pub row-3 : ℕ → ℕ → Test
 row-3 count wanted = test 3 (eqb count wanted)
 
+-- the sweeps
 abbrev pub row-4 : ℕ → Test
 row-4 sweeps = test 4 (leb 1 sweeps && leb sweeps maxSweeps)
 
+-- the plan is 2N bytes of 0 and 1, byte 0 being 0
 abbrev pub row-5 : ℕ → List ℕ → Test
 row-5 n plan = test 5 (isPlan n plan)
 
+-- every path has exactly one cut, and a cut node is of some kind
 abbrev pub row-6 : ℕ → List ℕ → List ℕ → Test
 row-6 n plan mask = test 6 (oneCut n plan && cutsOfKinds plan n 1 mask)
 
+-- the LLRs
 abbrev pub row-7 : List ℤ → Test
 row-7 llrs = test 7 (llrsInRange llrs)
 
+-- v is finite and above 0
 abbrev pub row-8 : Float → Test
 row-8 v = test 8 (isVariance v)
 
+-- position marks are at most 2, and sent samples finite
 abbrev pub row-9 : List ℕ → List Float → Test
 row-9 marks samples = test 9 (allReadable marks samples)
 
+-- payload bytes are bits
 abbrev pub row-10 : List ℕ → Test
 row-10 payload = test 10 (atMost 1 payload)
 
@@ -77,6 +87,7 @@ row-10 payload = test 10 (atMost 1 payload)
 abbrev pub row-11 : ℕ → ℕ → Test
 row-11 wanted room = test 11 (leb wanted room)
 
+-- the workspace has N(n + 3) words
 abbrev pub row-12 : ℕ → ℕ → Test
 row-12 wanted words = test 12 (leb wanted words)
 
@@ -86,33 +97,39 @@ accepted number result other = cond (eqb number 0) result other
 
 -- ---- samples to LLRs
 
+-- the number; room is the length of the LLR buffer
 unfoldable pub samplesNumber : List Float → List ℕ → Float → ℕ → ℕ
 samplesNumber samples marks v room =
     let N : ℕ = length samples in
     refusal (row-1 N ∷ row-3 (length marks) N ∷ row-8 v ∷ row-9 marks samples ∷ row-11 N room ∷ [])
 
+-- the LLR buffer afterwards
 unfoldable pub samplesLlrs : List Float → List ℕ → Float → List ℤ → List ℤ
 samplesLlrs samples marks v llrs =
     accepted (samplesNumber samples marks v (length llrs)) (over (llrsOf v marks samples) llrs) llrs
 
 -- ---- encoder
 
+-- the number; room is the length of the word buffer
 unfoldable pub encodeNumber : List ℕ → List ℕ → ℕ → ℕ
 encodeNumber mask payload room =
     let N : ℕ = length mask in
     refusal (row-1 N ∷ row-2 mask ∷ row-3 (length payload) (unfrozen mask) ∷ row-10 payload ∷ row-11 N room ∷ [])
 
+-- the word buffer afterwards
 unfoldable pub encodeWord : List ℕ → List ℕ → List ℕ → List ℕ
 encodeWord mask payload word =
     accepted (encodeNumber mask payload (length word)) (over (encode (exponent (length mask)) mask payload) word) word
 
 -- ---- planner
 
+-- the number; room is the length of the plan buffer
 unfoldable pub planNumber : List ℕ → ℕ → ℕ
 planNumber mask room =
     let N : ℕ = length mask in
     refusal (row-1 N ∷ row-2 mask ∷ row-11 (2 * N) room ∷ [])
 
+-- the plan buffer afterwards
 unfoldable pub planBytes : List ℕ → List ℕ → List ℕ
 planBytes mask plan = accepted (planNumber mask (length plan)) (over (plannerPlan (exponent (length mask)) mask) plan) plan
 
@@ -124,6 +141,7 @@ planCounts mask room =
 
 -- ---- check of a plan, which decode's tests share
 
+-- the number
 unfoldable pub checkNumber : List ℕ → List ℕ → ℕ
 checkNumber mask plan =
     let n : ℕ = exponent (length mask) in
@@ -146,6 +164,7 @@ pub record DecodeCall : Type 0 where
   pub payloadRoom : ℕ
   pub words : ℕ
 
+-- the number
 unfoldable pub decodeNumber : DecodeCall → ℕ
 decodeNumber c =
     let N : ℕ = length (c .mask) in
@@ -162,9 +181,11 @@ decodeAnswer c = decodeScan (exponent (length (c .mask))) (c .mask) (map finite 
 unfoldable pub decodeCycles : DecodeCall → ℕ
 decodeCycles c = accepted (decodeNumber c) (c .sweeps * cycles (c .plan) (exponent (length (c .mask))) 1 (c .mask)) 0
 
+-- the frozen check
 unfoldable pub decodeCheck : DecodeCall → ℕ
 decodeCheck c = accepted (decodeNumber c) (decodeAnswer c .check) 0
 
+-- the four buffers afterwards
 unfoldable pub decodeSoft : DecodeCall → List ℤ → List ℤ
 decodeSoft c soft = accepted (decodeNumber c) (over (map wordOf (decodeAnswer c .soft)) soft) soft
 
