@@ -1,0 +1,108 @@
+-- Signed words: what the machine reads back from bits, and bounds of negations and sums, over ℕ.
+use mathlib.Core.Path.{_≡_, refl, sym, ap, _∙_, subst}
+use mathlib.Core.Bool.{Bool, true, false, cond, not, Bool·beq}
+use Prim.Native.Nat.{ℕ, zero, suc, _^_, _<_, min, zero-le}
+use native.Mathlib.Omega.{arith}
+use lib.IntN.{ℤ, pos, negsuc, negℤ, natAbs, _-ℤ_, +ℤ-idl}
+use lib.Signed.{mag, ltZ}
+use lib.Dec.{T, ltb}
+use borrow.Author.Tests.{ltb-true, ltb-false, le-ltb}
+use mir.Syntax.{w16, w32}
+use mir.Val.{SFits, ofZ, toZ, boolByte}
+use mir.Facts.{toZ-ofZ}
+use Rattle.words.specs.Words.{Word}
+use Rattle.model.specs.Soft.{mark, negative, signed}
+
+pub fits-word : (z : ℤ) → Word z → SFits w32 z
+fits-word (pos n) h = record { sfits = omega arith }
+fits-word (negsuc n) h = record { sfits = omega arith }
+
+pub abs-neg : (z : ℤ) → natAbs (negℤ z) ≡ natAbs z
+abs-neg (pos zero) = refl
+abs-neg (pos (suc n)) = refl
+abs-neg (negsuc n) = refl
+
+pub neg-fits : (z : ℤ) → Word z → SFits w32 (pos 0 -ℤ z)
+neg-fits z h = rw (+ℤ-idl (negℤ z)) (fits-word (negℤ z) (rw (abs-neg z) h))
+
+-- the test `z < 0`
+pub ltZ-zero : (z : ℤ) → ltZ z (pos 0) ≡ negative z
+ltZ-zero (pos n) = le-ltb n 0 zero-le
+ltZ-zero (negsuc n) = refl
+
+pub abs-yes : (z : ℤ) → negative z ≡ true → pos 0 -ℤ z ≡ pos (natAbs z)
+abs-yes (pos n) e = absurd (subst T (sym e) tt)
+abs-yes (negsuc n) e = +ℤ-idl (pos (suc n))
+
+pub abs-no : (z : ℤ) → negative z ≡ false → z ≡ pos (natAbs z)
+abs-no (pos n) e = refl
+abs-no (negsuc n) e = absurd (subst T e tt)
+
+-- the smaller of two sizes
+pub min-pos : (m n : ℕ) → cond (ltb m n) (pos m) (pos n) ≡ pos (min m n)
+min-pos m n = go (ltb m n) refl
+  where
+    go : (t : Bool) → ltb m n ≡ t → cond t (pos m) (pos n) ≡ pos (min m n)
+    go true e = ap pos (omega (arith, ltb-true m n e))
+    go false e = ap pos (omega (arith, ltb-false m n e))
+
+-- the test `z == 2147483647`, which is of the bits
+pub mark-yes : (z : ℤ) → SFits w32 z → ofZ w32 z ≡ mark → z ≡ pos mark
+mark-yes (pos n) f e = ap pos e
+mark-yes (negsuc n) f e = absurd (omega (arith, f .sfits))
+
+pub mark-no : (z : ℤ) → (ofZ w32 z ≡ mark → ⊥) → z ≡ pos mark → ⊥
+mark-no z h e = h (ap (ofZ w32) e)
+
+pub min-of : (x y : ℤ) (m n : ℕ) → x ≡ pos m → y ≡ pos n → cond (ltZ x y) x y ≡ pos (min m n)
+min-of x y m n p q = rw (p, q) (min-pos m n)
+
+-- what is read back from the bits of a number that fits: of an element's `.given` and of a call's `.ok`
+pub back : {z : ℤ} → mag z < 2 ^ 31 → toZ w32 (ofZ w32 z) ≡ z
+back h = toZ-ofZ (record { sfits = h })
+
+pub back16 : {z : ℤ} → mag z < 2 ^ 15 → toZ w16 (ofZ w16 z) ≡ z
+back16 h = toZ-ofZ (record { sfits = h })
+
+-- the cast of an i16 to an i32
+pub wide16 : (z : ℤ) → mag z < 2 ^ 15 → SFits w32 (toZ w16 (ofZ w16 z))
+wide16 z h = rw (back16 h) (let g : mag z < 2 ^ 31 = omega arith in record { sfits = g })
+
+-- a bool as a byte
+pub bit-byte : (t : Bool) → boolByte t ≡ cond t 1 0
+bit-byte true = refl
+bit-byte false = refl
+
+pub back-wide : {z : ℤ} → mag z < 2 ^ 15 → toZ w32 (ofZ w32 (toZ w16 (ofZ w16 z))) ≡ z
+back-wide {z} h = toZ-ofZ (wide16 z h) ∙ back16 h
+
+-- ---- box by the smaller and the larger of two words
+max-zero : (x y : ℕ) → ltZ (pos x) (negℤ (pos y)) ≡ false
+max-zero x zero = le-ltb x 0 zero-le
+max-zero x (suc y) = refl
+
+-- the larger of the smaller one and minus the larger one
+abbrev pub minMax : ℤ → ℤ → ℤ
+minMax low high = cond (ltZ low (negℤ high)) (negℤ high) low
+
+opposite : (x y : ℕ) → minMax (negsuc y) (pos x) ≡ negℤ (pos (min x (suc y)))
+opposite zero y = ap (λ (n : ℕ). negℤ (pos n)) (let e : 0 ≡ min 0 (suc y) = omega arith in e)
+opposite (suc x) y = go (ltb x y) refl
+  where
+    go : (t : Bool) → ltb x y ≡ t → cond t (negsuc x) (negsuc y) ≡ negℤ (pos (min (suc x) (suc y)))
+    go true e = ap (λ (n : ℕ). negℤ (pos n)) (let f : suc x ≡ min (suc x) (suc y) = omega (arith, ltb-true x y e) in f)
+    go false e = ap (λ (n : ℕ). negℤ (pos n)) (let f : suc y ≡ min (suc x) (suc y) = omega (arith, ltb-false x y e) in f)
+
+pub box-by : (a b : ℤ) → minMax (cond (ltZ a b) a b) (cond (ltZ a b) b a) ≡ signed (not (Bool·beq (negative a) (negative b))) (min (natAbs a) (natAbs b))
+box-by (pos a) (pos b) = go (ltb a b) refl
+  where
+    go : (t : Bool) → ltb a b ≡ t → minMax (cond t (pos a) (pos b)) (cond t (pos b) (pos a)) ≡ pos (min a b)
+    go true e = rw (max-zero a b) (ap pos (omega (arith, ltb-true a b e)))
+    go false e = rw (max-zero b a) (ap pos (omega (arith, ltb-false a b e)))
+box-by (pos a) (negsuc b) = opposite a b
+box-by (negsuc a) (pos b) = opposite b a ∙ ap (λ (n : ℕ). negℤ (pos n)) (let e : min b (suc a) ≡ min (suc a) b = omega arith in e)
+box-by (negsuc a) (negsuc b) = go (ltb b a) refl
+  where
+    go : (t : Bool) → ltb b a ≡ t → minMax (cond t (negsuc a) (negsuc b)) (cond t (negsuc b) (negsuc a)) ≡ pos (min (suc a) (suc b))
+    go true e = ap pos (let f : suc b ≡ min (suc a) (suc b) = omega (arith, ltb-true b a e) in f)
+    go false e = ap pos (let f : suc a ≡ min (suc a) (suc b) = omega (arith, ltb-false b a e) in f)

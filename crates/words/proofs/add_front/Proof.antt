@@ -1,0 +1,108 @@
+use Rattle.words.proofs.Signed.{back}
+use mathlib.Core.Path.{_≡_, refl, ap, ap₂, _∙_}
+use lib.IntN.{pos}
+use Prim.Native.Nat.{ℕ, _+_, _-_, _≤_}
+use native.Mathlib.Omega.{arith}
+use native.Mathlib.Nat.{le-antisymm}
+use borrow.Author.Needs.{needs}
+use lib.ListN.{length, length-set}
+use Rattle.words.specs.Words.{write, addWord, plusFront}
+use Rattle.words.proofs.Store.{store-none, store-more, source-above, source-below}
+use Rattle.words.proofs.add_front.Statement.{statement}
+use Rattle.words.proofs.add_front.Tie as tie
+use Rattle.words.proofs.add_front.Reads as reads
+use Rattle.words.proofs.add_front.Lts as lts
+use Rattle.words.proofs.add_words.Reads as add-words-reads
+
+abbrev Inv-loop : tie.InvT-loop
+Inv-loop part₀ d h k₀ part k = (k ≤ h) × (part ≡ write part₀ d k (plusFront part₀ d)) × (length part ≡ length part₀)
+
+abbrev μ-loop : tie.MeasureT-loop
+μ-loop part₀ d h k₀ part k = h - k
+
+loop-holds : tie.Need-loop-holds Inv-loop μ-loop
+loop-holds c = (omega arith, store-none (pos 0) _ _ _, refl)
+
+add-add-words : tie.Need-add-add-words Inv-loop μ-loop
+add-add-words c = search needs
+
+mul-add-words : tie.Need-mul-add-words Inv-loop μ-loop
+mul-add-words c = search needs
+
+slice-copy-out-add-words : tie.Need-slice-copy-out-add-words Inv-loop μ-loop
+slice-copy-out-add-words c = search needs
+
+mul-add-words-2 : tie.Need-mul-add-words-2 Inv-loop μ-loop
+mul-add-words-2 c = search needs
+
+slice-copy-out-add-words-2 : tie.Need-slice-copy-out-add-words-2 Inv-loop μ-loop
+slice-copy-out-add-words-2 c = search needs
+
+add-words-requires : tie.Need-add-words-requires Inv-loop μ-loop
+add-words-requires c κs =
+    let in-turn = c .before .before in
+    let at-loop = in-turn .before in
+    let start = at-loop .before in
+    let a = start .args in
+    let e = at-loop .loop .inv .1 in
+    let lt = in-turn .loop-test .taken in
+    let own = source-above (pos 0) (a .part .now) (at-loop .loop .part) (a .d) (at-loop .loop .k) (plusFront (a .part .now) (a .d)) (a .d + at-loop .loop .k) e (omega arith) in
+    let front = source-below (pos 0) (a .part .now) (at-loop .loop .part) (a .d) (at-loop .loop .k) (plusFront (a .part .now) (a .d)) (at-loop .loop .k) e (omega arith) in
+    rw (back (c .before .add-words-arg .given), back (c .add-words-arg2 .given), own, front) (start .pre .1 (at-loop .loop .k) lt)
+
+add-t14 : tie.Need-add-t14 Inv-loop μ-loop
+add-t14 c = search needs
+
+mul-t15 : tie.Need-mul-t15 Inv-loop μ-loop
+mul-t15 c = search needs
+
+slice-set-from-part : tie.Need-slice-set-from-part Inv-loop μ-loop
+slice-set-from-part c = search needs
+
+add-k : tie.Need-add-k Inv-loop μ-loop
+add-k c = search needs
+
+loop-less : tie.Need-loop-less Inv-loop μ-loop
+loop-less c = search needs
+
+loop-again : tie.Need-loop-again Inv-loop μ-loop
+loop-again c =
+    let in-turn = c .before .before .before in
+    let at-loop = in-turn .before in
+    let start = at-loop .before in
+    let a = start .args in
+    let e = at-loop .loop .inv .1 in
+    let own = source-above (pos 0) (a .part .now) (at-loop .loop .part) (a .d) (at-loop .loop .k) (plusFront (a .part .now) (a .d)) (a .d + at-loop .loop .k) e (omega arith) in
+    let front = source-below (pos 0) (a .part .now) (at-loop .loop .part) (a .d) (at-loop .loop .k) (plusFront (a .part .now) (a .d)) (at-loop .loop .k) e (omega arith) in
+    (omega arith, store-more (pos 0) (a .part .now) (at-loop .loop .part) (a .d) (at-loop .loop .k) _ (plusFront (a .part .now) (a .d)) e (back (c .add-words .ok) ∙ c .add-words .ensures ∙ ap₂ addWord (back (c .before .before .add-words-arg .given) ∙ own) (back (c .before .add-words-arg2 .given) ∙ front)), simp length-set (at-loop .loop .inv .2))
+
+same-length : tie.Need-same-length Inv-loop μ-loop
+same-length c = c .before .loop .inv .2
+
+returns : tie.Need-returns Inv-loop μ-loop
+returns c =
+    let at-loop = c .before in
+    let a = at-loop .before .args in
+    at-loop .loop .inv .1 ∙ ap (λ (n : ℕ). write (a .part .now) (a .d) n (plusFront (a .part .now) (a .d))) (le-antisymm (at-loop .loop .inv .0) (c .loop-test .left))
+
+pub add-front-spec : {M : Type 1} → statement M
+add-front-spec =
+    tie.close
+    (tie.spec
+    Inv-loop
+    μ-loop
+    loop-holds
+    add-add-words
+    mul-add-words
+    slice-copy-out-add-words
+    mul-add-words-2
+    slice-copy-out-add-words-2
+    add-words-requires
+    add-t14
+    mul-t15
+    slice-set-from-part
+    add-k
+    loop-less
+    loop-again
+    same-length
+    returns)

@@ -1,0 +1,56 @@
+use mathlib.Core.Path.{_≡_, sym, ap, ap₂, _∙_, subst}
+use mathlib.Core.Bool.{Bool, true, false, cond}
+use lib.IntN.{ℤ, negℤ, +ℤ-idl}
+use lib.Signed.{ltZ}
+use mir.Val.{toZ, ofZ}
+use mir.Syntax.{w32}
+use mir.Facts.{toZ-ofZ}
+use Rattle.words.specs.Words.{Word}
+use Rattle.words.proofs.Signed.{back, neg-fits, box-by}
+use Rattle.words.proofs.Laws.{boxWord-is}
+use borrow.Author.Needs.{needs}
+use Rattle.words.proofs.box_words.Statement.{statement}
+use Rattle.words.proofs.box_words.Tie as tie
+use Rattle.words.proofs.box_words.Reads as reads
+use Rattle.words.proofs.box_words.Lts as lts
+use Rattle.words.proofs.max_word.Reads as max-word-reads
+use Rattle.words.proofs.min_word.Reads as min-word-reads
+
+min-word-requires : tie.Need-min-word-requires
+min-word-requires c κs = search needs
+
+max-word-requires : tie.Need-max-word-requires
+max-word-requires c κs = search needs
+
+low-is : (c : tie.After-min-word) → let a = c .before .args in toZ w32 (ofZ w32 (c .min-word .result)) ≡ cond (ltZ (a .a) (a .b)) (a .a) (a .b)
+low-is c = back (c .min-word .ok) ∙ c .min-word .ensures ∙ ap₂ (λ (x y : ℤ). cond (ltZ x y) x y) (toZ-ofZ (c .before .fits .a)) (toZ-ofZ (c .before .fits .b))
+
+high-is : (c : tie.After-max-word) → let a = c .before .before .args in toZ w32 (ofZ w32 (c .max-word .result)) ≡ cond (ltZ (a .a) (a .b)) (a .b) (a .a)
+high-is c = back (c .max-word .ok) ∙ c .max-word .ensures ∙ ap₂ (λ (x y : ℤ). cond (ltZ x y) y x) (toZ-ofZ (c .before .before .fits .a)) (toZ-ofZ (c .before .before .fits .b))
+
+either-word : (t : Bool) (x y : ℤ) → Word x → Word y → Word (cond t x y)
+either-word true x y p q = p
+either-word false x y p q = q
+
+sub-max-word : tie.Need-sub-max-word
+sub-max-word c =
+    let s = c .before .before in
+    let a = s .args in
+    neg-fits (toZ w32 (ofZ w32 (c .max-word .result))) (subst Word (sym (high-is c)) (either-word (ltZ (a .a) (a .b)) (a .b) (a .a) (s .pre .1) (s .pre .0)))
+
+max-word-requires-2 : tie.Need-max-word-requires-2
+max-word-requires-2 c κs = search needs
+
+returns : tie.Need-returns
+returns c =
+    let s = c .before .before .before in
+    let a = s .args in
+    back (c .max-word2 .ok) ∙ c .max-word2 .ensures
+    ∙ ap₂ (λ (x y : ℤ). cond (ltZ x y) y x) (low-is (c .before .before)) (toZ-ofZ (sub-max-word (c .before)) ∙ +ℤ-idl _ ∙ ap negℤ (high-is (c .before)))
+    ∙ box-by (a .a) (a .b)
+    ∙ sym (boxWord-is (a .a) (a .b) (s .pre .0) (s .pre .1))
+
+pub box-words-spec : {M : Type 1} → statement M
+box-words-spec =
+    tie.close
+    (tie.spec min-word-requires max-word-requires sub-max-word max-word-requires-2 returns)

@@ -1,0 +1,75 @@
+use mathlib.Core.Path.{_≡_, refl, ap₂, _∙_}
+use Prim.Native.Nat.{ℕ, _-_, _≤_}
+use native.Mathlib.Omega.{arith}
+use native.Mathlib.Nat.{le-antisymm}
+use lib.IntN.{ℤ, pos}
+use lib.ListN.{length, length-set}
+use mir.Val.{toZ, ofZ}
+use mir.Syntax.{w32}
+use mir.Facts.{toZ-ofZ}
+use Rattle.words.specs.Words.{write}
+use Rattle.words.proofs.Store.{store-none, store-more}
+use borrow.Author.Needs.{needs}
+use Rattle.words.proofs.fill.Statement.{statement}
+use Rattle.words.proofs.fill.Tie as tie
+use Rattle.words.proofs.fill.Reads as reads
+use Rattle.words.proofs.fill.Lts as lts
+
+abbrev Inv-loop : tie.InvT-loop
+Inv-loop w₀ m s v k₀ w k = (k ≤ s) × (w ≡ write w₀ m k (λ j. toZ w32 v)) × (length w ≡ length w₀)
+
+abbrev μ-loop : tie.MeasureT-loop
+μ-loop w₀ m s v k₀ w k = s - k
+
+loop-holds : tie.Need-loop-holds Inv-loop μ-loop
+loop-holds c =
+    (omega arith, store-none (pos 0) _ _ _, refl)
+
+add-v : tie.Need-add-v Inv-loop μ-loop
+add-v c = search needs
+
+mul-v : tie.Need-mul-v Inv-loop μ-loop
+mul-v c = search needs
+
+slice-set-from-v : tie.Need-slice-set-from-v Inv-loop μ-loop
+slice-set-from-v c = search needs
+
+add-k : tie.Need-add-k Inv-loop μ-loop
+add-k c = search needs
+
+loop-less : tie.Need-loop-less Inv-loop μ-loop
+loop-less c = search needs
+
+loop-again : tie.Need-loop-again Inv-loop μ-loop
+loop-again c =
+    let at-loop = c .before in
+    let a = at-loop .before .args in
+    (omega arith, store-more (pos 0) (a .w .now) (at-loop .loop .w) (a .m) (at-loop .loop .k) _ (λ (j : ℕ). toZ w32 (ofZ w32 (a .v))) (at-loop .loop .inv .1) refl, simp length-set (at-loop .loop .inv .2))
+
+same-length : tie.Need-same-length Inv-loop μ-loop
+same-length c =
+    c .before .loop .inv .2
+
+returns : tie.Need-returns Inv-loop μ-loop
+returns c =
+    let at-loop = c .before in
+    let s = at-loop .before in
+    let a = s .args in
+    at-loop .loop .inv .1
+    ∙ ap₂ (λ (n : ℕ) (z : ℤ). write (a .w .now) (a .m) n (λ j. z)) (le-antisymm (at-loop .loop .inv .0) (c .loop-test .left)) (toZ-ofZ (s .fits .v))
+
+pub fill-spec : {M : Type 1} → statement M
+fill-spec =
+    tie.close
+    (tie.spec
+    Inv-loop
+    μ-loop
+    loop-holds
+    add-v
+    mul-v
+    slice-set-from-v
+    add-k
+    loop-less
+    loop-again
+    same-length
+    returns)

@@ -1,0 +1,59 @@
+use mathlib.Core.Path.{_≡_, ap, ap₂, _∙_}
+use Prim.Native.Nat.{ℕ, _≤_}
+use lib.IntN.{ℤ, pos, natAbs, negℤ}
+use mir.Val.{toZ, ofZ}
+use mir.Syntax.{w32}
+use mathlib.Core.Bool.{Bool, true, false, cond}
+use lib.Dec.{eqb}
+use mir.Facts.{toZ-ofZ}
+use Rattle.words.specs.Words.{xor}
+use Rattle.model.specs.Soft.{mark, negative}
+use Rattle.words.proofs.Signed.{back, fits-word, ltZ-zero}
+use Rattle.words.proofs.Laws.{signed-is}
+use borrow.Author.Needs.{needs}
+use Rattle.words.proofs.leave_out.Statement.{statement}
+use Rattle.words.proofs.leave_out.Tie as tie
+use Rattle.words.proofs.leave_out.Reads as reads
+use Rattle.words.proofs.leave_out.Lts as lts
+use Rattle.words.proofs.pick_size.Reads as pick-size-reads
+use Rattle.words.proofs.size_word.Reads as size-word-reads
+use Rattle.words.proofs.with_sign.Reads as with-sign-reads
+
+size-word-requires : tie.Need-size-word-requires
+size-word-requires c κs = search needs
+
+pick-size-requires : tie.Need-pick-size-requires
+pick-size-requires c κs = search needs
+
+-- the size, and its bound
+pick-is : (c : tie.After-pick-size) → c .pick-size .result ≡ cond (eqb (natAbs (c .before .before .args .x)) (c .before .before .args .m1)) (c .before .before .args .m2) (c .before .before .args .m1)
+pick-is c =
+    let s = c .before .before in
+    c .pick-size .ensures
+    ∙ ap (λ (n : ℕ). cond (eqb n (s .args .m1)) (s .args .m2) (s .args .m1)) (c .before .size-word .ensures ∙ ap natAbs (toZ-ofZ (s .fits .x)))
+
+cond-le : (t : Bool) (a b n : ℕ) → a ≤ n → b ≤ n → cond t a b ≤ n
+cond-le true a b n p q = p
+cond-le false a b n p q = q
+
+pick-le : (c : tie.After-pick-size) → c .pick-size .result ≤ mark
+pick-le c = let s = c .before .before in rw (pick-is c) (cond-le (eqb (natAbs (s .args .x)) (s .args .m1)) (s .args .m2) (s .args .m1) mark (s .pre .1 .1) (s .pre .1 .0))
+
+cast-with-sign : tie.Need-cast-with-sign
+cast-with-sign c = fits-word (pos (c .pick-size .result)) (pick-le c)
+
+with-sign-requires : tie.Need-with-sign-requires
+with-sign-requires c κs = rw (toZ-ofZ (cast-with-sign c)) (pick-le c)
+
+returns : tie.Need-returns
+returns c =
+    let s = c .before .before .before in
+    let m = toZ-ofZ (cast-with-sign (c .before)) ∙ ap pos (pick-is (c .before)) in
+    back (c .with-sign .ok) ∙ c .with-sign .ensures
+    ∙ ap₂ (λ (t : Bool) (z : ℤ). cond t (negℤ z) z) (ap (xor (s .args .neg)) (ltZ-zero (toZ w32 (ofZ w32 (s .args .x))) ∙ ap negative (toZ-ofZ (s .fits .x)))) m
+    ∙ signed-is (xor (s .args .neg) (negative (s .args .x))) (cond (eqb (natAbs (s .args .x)) (s .args .m1)) (s .args .m2) (s .args .m1))
+
+pub leave-out-spec : {M : Type 1} → statement M
+leave-out-spec =
+    tie.close
+    (tie.spec size-word-requires pick-size-requires cast-with-sign with-sign-requires returns)

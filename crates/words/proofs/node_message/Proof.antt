@@ -1,0 +1,224 @@
+-- `words::node_message` meets its contract. The loop's invariant: the first k words of both halves are stored, and nothing else is. Assumes nothing.
+use mathlib.Core.Path.{_≡_, refl, sym, ap, ap₂, _∙_, subst, subst₂}
+use mathlib.Core.Logic.{inl, inr}
+use lib.IntN.{pos}
+use Prim.Native.Nat.{ℕ, _+_, _-_, _≤_}
+use native.Mathlib.Omega.{arith}
+use native.Mathlib.Nat.{le-antisymm}
+use lib.ListN.{length, length-set}
+use Rattle.words.specs.Words.{write, Word, Added, boxWord, addWord, boxPlus, plusBox}
+use Rattle.words.proofs.Signed.{back}
+use Rattle.words.proofs.Store.{store-both, source-both}
+use borrow.Author.Needs.{needs}
+use Rattle.words.proofs.node_message.Statement.{statement}
+use Rattle.words.proofs.node_message.Tie as tie
+use Rattle.words.proofs.node_message.Reads as reads
+use Rattle.words.proofs.node_message.Lts as lts
+use Rattle.words.proofs.add_words.Reads as add-words-reads
+use Rattle.words.proofs.box_words.Reads as box-words-reads
+
+abbrev Inv-loop : tie.InvT-loop
+Inv-loop w₀ m x l h y r g k₀ w k = (k ≤ h) × (w ≡ write (write w₀ m k (boxPlus w₀ l (x + h) (l + h))) (m + h) k (plusBox w₀ x l (l + h))) × (length w ≡ length w₀)
+
+abbrev μ-loop : tie.MeasureT-loop
+μ-loop w₀ m x l h y r g k₀ w k = h - k
+
+add-y : tie.Need-add-y Inv-loop μ-loop
+add-y c = search needs
+
+add-r : tie.Need-add-r Inv-loop μ-loop
+add-r c = search needs
+
+add-g : tie.Need-add-g Inv-loop μ-loop
+add-g c = search needs
+
+loop-holds : tie.Need-loop-holds Inv-loop μ-loop
+loop-holds c = (omega arith, unfold write in refl, refl)
+
+add-first : tie.Need-add-first Inv-loop μ-loop
+add-first c = search needs
+
+mul-first : tie.Need-mul-first Inv-loop μ-loop
+mul-first c = search needs
+
+slice-copy-out-first : tie.Need-slice-copy-out-first Inv-loop μ-loop
+slice-copy-out-first c = search needs
+
+add-second : tie.Need-add-second Inv-loop μ-loop
+add-second c = search needs
+
+mul-second : tie.Need-mul-second Inv-loop μ-loop
+mul-second c = search needs
+
+slice-copy-out-second : tie.Need-slice-copy-out-second Inv-loop μ-loop
+slice-copy-out-second c = search needs
+
+add-left : tie.Need-add-left Inv-loop μ-loop
+add-left c = search needs
+
+mul-left : tie.Need-mul-left Inv-loop μ-loop
+mul-left c = search needs
+
+slice-copy-out-left : tie.Need-slice-copy-out-left Inv-loop μ-loop
+slice-copy-out-left c = search needs
+
+add-right : tie.Need-add-right Inv-loop μ-loop
+add-right c = search needs
+
+mul-right : tie.Need-mul-right Inv-loop μ-loop
+mul-right c = search needs
+
+slice-copy-out-right : tie.Need-slice-copy-out-right Inv-loop μ-loop
+slice-copy-out-right c = search needs
+
+add-words-requires : tie.Need-add-words-requires Inv-loop μ-loop
+add-words-requires c κs =
+    let turn = c .before .before .before .before in
+    let at-loop = turn .before in
+    let start = at-loop .before in
+    let a = start .args in
+    let k = at-loop .loop .k in
+    let lt = turn .loop-test .taken in
+    let room = start .pre .0 in
+    let at-y = source-both (pos 0) (a .w .now) (at-loop .loop .w) (a .m) (a .h) k (boxPlus (a .w .now) (a .l) (a .x + a .h) (a .l + a .h)) (plusBox (a .w .now) (a .x) (a .l) (a .l + a .h)) (a .x + a .h + k) (at-loop .loop .inv .1) (at-loop .loop .inv .0) (inr (omega arith)) in
+    let at-r = source-both (pos 0) (a .w .now) (at-loop .loop .w) (a .m) (a .h) k (boxPlus (a .w .now) (a .l) (a .x + a .h) (a .l + a .h)) (plusBox (a .w .now) (a .x) (a .l) (a .l + a .h)) (a .l + a .h + k) (at-loop .loop .inv .1) (at-loop .loop .inv .0) (inl (omega arith)) in
+    subst₂ Added (sym (back (c .before .before .second .given) ∙ at-y)) (sym (back (c .right .given) ∙ at-r)) (start .pre .1 .2 k lt)
+
+box-words-requires : tie.Need-box-words-requires Inv-loop μ-loop
+box-words-requires c κs =
+    let turn = c .before .before .before .before .before in
+    let at-loop = turn .before in
+    let start = at-loop .before in
+    let a = start .args in
+    let k = at-loop .loop .k in
+    let lt = turn .loop-test .taken in
+    let room = start .pre .0 in
+    let at-l = source-both (pos 0) (a .w .now) (at-loop .loop .w) (a .m) (a .h) k (boxPlus (a .w .now) (a .l) (a .x + a .h) (a .l + a .h)) (plusBox (a .w .now) (a .x) (a .l) (a .l + a .h)) (a .l + k) (at-loop .loop .inv .1) (at-loop .loop .inv .0) (inl (omega arith)) in
+    let at-y = source-both (pos 0) (a .w .now) (at-loop .loop .w) (a .m) (a .h) k (boxPlus (a .w .now) (a .l) (a .x + a .h) (a .l + a .h)) (plusBox (a .w .now) (a .x) (a .l) (a .l + a .h)) (a .x + a .h + k) (at-loop .loop .inv .1) (at-loop .loop .inv .0) (inr (omega arith)) in
+    let at-r = source-both (pos 0) (a .w .now) (at-loop .loop .w) (a .m) (a .h) k (boxPlus (a .w .now) (a .l) (a .x + a .h) (a .l + a .h)) (plusBox (a .w .now) (a .x) (a .l) (a .l + a .h)) (a .l + a .h + k) (at-loop .loop .inv .1) (at-loop .loop .inv .0) (inl (omega arith)) in (
+      subst Word (sym (back (c .before .before .left .given) ∙ at-l)) (start .pre .1 .1 k lt),
+      subst Word (sym (back (c .add-words .ok) ∙ c .add-words .ensures ∙ ap₂ addWord (back (c .before .before .before .second .given) ∙ at-y) (back (c .before .right .given) ∙ at-r))) (start .pre .1 .2 k lt .1),
+    )
+
+add-w : tie.Need-add-w Inv-loop μ-loop
+add-w c = search needs
+
+mul-w : tie.Need-mul-w Inv-loop μ-loop
+mul-w c = search needs
+
+slice-set-from-w : tie.Need-slice-set-from-w Inv-loop μ-loop
+slice-set-from-w c = search needs
+
+box-words-requires-2 : tie.Need-box-words-requires-2 Inv-loop μ-loop
+box-words-requires-2 c κs =
+    let turn = c .before .before .before .before .before .before in
+    let at-loop = turn .before in
+    let start = at-loop .before in
+    let a = start .args in
+    let k = at-loop .loop .k in
+    let lt = turn .loop-test .taken in
+    let room = start .pre .0 in
+    let at-x = source-both (pos 0) (a .w .now) (at-loop .loop .w) (a .m) (a .h) k (boxPlus (a .w .now) (a .l) (a .x + a .h) (a .l + a .h)) (plusBox (a .w .now) (a .x) (a .l) (a .l + a .h)) (a .x + k) (at-loop .loop .inv .1) (at-loop .loop .inv .0) (inr (omega arith)) in
+    let at-l = source-both (pos 0) (a .w .now) (at-loop .loop .w) (a .m) (a .h) k (boxPlus (a .w .now) (a .l) (a .x + a .h) (a .l + a .h)) (plusBox (a .w .now) (a .x) (a .l) (a .l + a .h)) (a .l + k) (at-loop .loop .inv .1) (at-loop .loop .inv .0) (inl (omega arith)) in
+    (subst Word (sym (back (c .before .before .before .before .before .first .given) ∙ at-x)) (start .pre .1 .0 k lt), subst Word (sym (back (c .before .before .before .left .given) ∙ at-l)) (start .pre .1 .1 k lt))
+
+add-words-requires-2 : tie.Need-add-words-requires-2 Inv-loop μ-loop
+add-words-requires-2 c κs =
+    let turn = c .before .before .before .before .before .before .before in
+    let at-loop = turn .before in
+    let start = at-loop .before in
+    let a = start .args in
+    let k = at-loop .loop .k in
+    let lt = turn .loop-test .taken in
+    let room = start .pre .0 in
+    let at-x = source-both (pos 0) (a .w .now) (at-loop .loop .w) (a .m) (a .h) k (boxPlus (a .w .now) (a .l) (a .x + a .h) (a .l + a .h)) (plusBox (a .w .now) (a .x) (a .l) (a .l + a .h)) (a .x + k) (at-loop .loop .inv .1) (at-loop .loop .inv .0) (inr (omega arith)) in
+    let at-l = source-both (pos 0) (a .w .now) (at-loop .loop .w) (a .m) (a .h) k (boxPlus (a .w .now) (a .l) (a .x + a .h) (a .l + a .h)) (plusBox (a .w .now) (a .x) (a .l) (a .l + a .h)) (a .l + k) (at-loop .loop .inv .1) (at-loop .loop .inv .0) (inl (omega arith)) in
+    let at-r = source-both (pos 0) (a .w .now) (at-loop .loop .w) (a .m) (a .h) k (boxPlus (a .w .now) (a .l) (a .x + a .h) (a .l + a .h)) (plusBox (a .w .now) (a .x) (a .l) (a .l + a .h)) (a .l + a .h + k) (at-loop .loop .inv .1) (at-loop .loop .inv .0) (inl (omega arith)) in
+    subst₂ Added (sym (back (c .box-words2 .ok) ∙ c .box-words2 .ensures ∙ ap₂ boxWord (back (c .before .before .before .before .before .before .first .given) ∙ at-x) (back (c .before .before .before .before .left .given) ∙ at-l))) (sym (back (c .before .before .before .right .given) ∙ at-r)) (start .pre .1 .3 k lt)
+
+add-t16 : tie.Need-add-t16 Inv-loop μ-loop
+add-t16 c = search needs
+
+mul-t15 : tie.Need-mul-t15 Inv-loop μ-loop
+mul-t15 c = search needs
+
+slice-set-from-w-2 : tie.Need-slice-set-from-w-2 Inv-loop μ-loop
+slice-set-from-w-2 c =
+    let at-loop = c .before .before .before .before .before .before .before .before .before in
+    let room = at-loop .before .pre .0 in
+    let inv = at-loop .loop .inv in
+    simp length-set (omega arith)
+
+add-k : tie.Need-add-k Inv-loop μ-loop
+add-k c = search needs
+
+loop-less : tie.Need-loop-less Inv-loop μ-loop
+loop-less c = search needs
+
+loop-again : tie.Need-loop-again Inv-loop μ-loop
+loop-again c =
+    let turn = c .before .before .before .before .before .before .before .before in
+    let at-loop = turn .before in
+    let start = at-loop .before in
+    let a = start .args in
+    let k = at-loop .loop .k in
+    let lt = turn .loop-test .taken in
+    let room = start .pre .0 in
+    let at-x = source-both (pos 0) (a .w .now) (at-loop .loop .w) (a .m) (a .h) k (boxPlus (a .w .now) (a .l) (a .x + a .h) (a .l + a .h)) (plusBox (a .w .now) (a .x) (a .l) (a .l + a .h)) (a .x + k) (at-loop .loop .inv .1) (at-loop .loop .inv .0) (inr (omega arith)) in
+    let at-y = source-both (pos 0) (a .w .now) (at-loop .loop .w) (a .m) (a .h) k (boxPlus (a .w .now) (a .l) (a .x + a .h) (a .l + a .h)) (plusBox (a .w .now) (a .x) (a .l) (a .l + a .h)) (a .x + a .h + k) (at-loop .loop .inv .1) (at-loop .loop .inv .0) (inr (omega arith)) in
+    let at-l = source-both (pos 0) (a .w .now) (at-loop .loop .w) (a .m) (a .h) k (boxPlus (a .w .now) (a .l) (a .x + a .h) (a .l + a .h)) (plusBox (a .w .now) (a .x) (a .l) (a .l + a .h)) (a .l + k) (at-loop .loop .inv .1) (at-loop .loop .inv .0) (inl (omega arith)) in
+    let at-r = source-both (pos 0) (a .w .now) (at-loop .loop .w) (a .m) (a .h) k (boxPlus (a .w .now) (a .l) (a .x + a .h) (a .l + a .h)) (plusBox (a .w .now) (a .x) (a .l) (a .l + a .h)) (a .l + a .h + k) (at-loop .loop .inv .1) (at-loop .loop .inv .0) (inl (omega arith)) in (
+      omega arith,
+      store-both (pos 0) (a .w .now) (at-loop .loop .w) (a .m) (a .h) k _ _ (boxPlus (a .w .now) (a .l) (a .x + a .h) (a .l + a .h)) (plusBox (a .w .now) (a .x) (a .l) (a .l + a .h)) lt (at-loop .loop .inv .1)
+          (back (c .before .before .box-words .ok) ∙ c .before .before .box-words .ensures ∙ ap₂ boxWord (back (c .before .before .before .before .before .left .given) ∙ at-l) (back (c .before .before .before .add-words .ok) ∙ c .before .before .before .add-words .ensures ∙ ap₂ addWord (back (c .before .before .before .before .before .before .second .given) ∙ at-y) (back (c .before .before .before .before .right .given) ∙ at-r)))
+          (back (c .add-words2 .ok) ∙ c .add-words2 .ensures ∙ ap₂ addWord (back (c .before .box-words2 .ok) ∙ c .before .box-words2 .ensures ∙ ap₂ boxWord (back (c .before .before .before .before .before .before .before .first .given) ∙ at-x) (back (c .before .before .before .before .before .left .given) ∙ at-l)) (back (c .before .before .before .before .right .given) ∙ at-r)),
+      simp length-set (at-loop .loop .inv .2),
+    )
+
+same-length : tie.Need-same-length Inv-loop μ-loop
+same-length c = c .before .loop .inv .2
+
+returns : tie.Need-returns Inv-loop μ-loop
+returns c =
+    let at-loop = c .before in
+    let a = at-loop .before .args in
+    at-loop .loop .inv .1
+    ∙ ap (λ (n : ℕ). write (write (a .w .now) (a .m) n (boxPlus (a .w .now) (a .l) (a .x + a .h) (a .l + a .h))) (a .m + a .h) n (plusBox (a .w .now) (a .x) (a .l) (a .l + a .h))) (le-antisymm (at-loop .loop .inv .0) (c .loop-test .left))
+
+pub node-message-spec : {M : Type 1} → statement M
+node-message-spec =
+    tie.close
+    (tie.spec
+    Inv-loop
+    μ-loop
+    add-y
+    add-r
+    add-g
+    loop-holds
+    add-first
+    mul-first
+    slice-copy-out-first
+    add-second
+    mul-second
+    slice-copy-out-second
+    add-left
+    mul-left
+    slice-copy-out-left
+    add-right
+    mul-right
+    slice-copy-out-right
+    add-words-requires
+    box-words-requires
+    add-w
+    mul-w
+    slice-set-from-w
+    box-words-requires-2
+    add-words-requires-2
+    add-t16
+    mul-t15
+    slice-set-from-w-2
+    add-k
+    loop-less
+    loop-again
+    same-length
+    returns)

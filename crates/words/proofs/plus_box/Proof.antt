@@ -1,0 +1,62 @@
+use Rattle.words.proofs.Steps.{plus-box-law, front-own, front-other}
+use mathlib.Core.Path.{sym, subst₂}
+use Rattle.words.specs.Words.{Added}
+use native.Mathlib.Omega.{arith}
+use borrow.Author.Needs.{needs}
+use Rattle.words.proofs.plus_box.Statement.{statement}
+use Rattle.words.proofs.plus_box.Tie as tie
+use Rattle.words.proofs.plus_box.Reads as reads
+use Rattle.words.proofs.plus_box.Lts as lts
+use Rattle.words.proofs.add_front.Reads as add-front-reads
+use Rattle.words.proofs.box_at.Reads as box-at-reads
+
+box-at-requires : tie.Need-box-at-requires
+box-at-requires c κs = search needs
+
+sub-far : tie.Need-sub-far
+sub-far c = search needs
+
+mul-add-front : tie.Need-mul-add-front
+mul-add-front c = search needs
+
+sub-add-front : tie.Need-sub-add-front
+sub-add-front c = search needs
+
+part-add-front-start : tie.Need-part-add-front-start
+part-add-front-start c = search needs
+
+part-add-front-end : tie.Need-part-add-front-end
+part-add-front-end c = search needs
+
+add-front-requires : tie.Need-add-front-requires
+add-front-requires c κs =
+    let called = c .before .before in
+    let start = called .before .before in
+    let a = start .args in
+    let len = called .box-at .kept .0 in
+    (omega arith, λ k lt. subst₂ Added (sym (front-own (a .w .now) (called .box-at .last .0) (a .d) (a .a) (a .b) (a .c) (a .h) (start .pre .0 .0) (start .pre .0 .3) (called .box-at .ensures) k lt)) (sym (front-other (a .w .now) (called .box-at .last .0) (a .d) (a .a) (a .b) (a .c) (a .h) (start .pre .0 .0) (start .pre .0 .3) (called .box-at .ensures) k lt)) (start .pre .1 .1 .2 k lt))
+
+same-length : tie.Need-same-length
+same-length c = search needs
+
+returns : tie.Need-returns
+returns c =
+    let called = c .before .before .before .before in
+    let start = called .before .before in
+    let a = start .args in
+    plus-box-law (a .w .now) (called .box-at .last .0) (c .before .add-front .last .0) (a .d) (a .a) (a .b) (a .c) (a .h)
+    (start .pre .0 .0) (start .pre .0 .3) (called .box-at .ensures) (c .before .add-front .ensures)
+
+pub plus-box-spec : {M : Type 1} → statement M
+plus-box-spec =
+    tie.close
+    (tie.spec
+    box-at-requires
+    sub-far
+    mul-add-front
+    sub-add-front
+    part-add-front-start
+    part-add-front-end
+    add-front-requires
+    same-length
+    returns)

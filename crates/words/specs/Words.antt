@@ -1,0 +1,83 @@
+-- 32-bit words that hold soft values: 2147483647 is the mark of certain. Assumes nothing: these are definitions.
+use mathlib.Core.Logic.{_⊎_}
+use mathlib.Core.Bool.{Bool, cond, not, Bool·beq}
+use mathlib.Core.List.{List}
+use Prim.Native.Nat.{ℕ, zero, suc, _+_, _*_, _≤_, _<_}
+use lib.IntN.{ℤ, pos, negsuc, natAbs}
+use lib.Dec.{eqb}
+use lib.ListN.{getD, set}
+use Rattle.model.specs.Lists.{tabulate}
+use Rattle.model.specs.Soft.{Soft, finite, certain, _at_, box, plus, mark, wordOf}
+
+-- the soft value of a word
+abbrev pub softOf : ℤ → Soft
+softOf (pos n) = cond (eqb n mark) certain (finite (pos n))
+softOf (negsuc n) = finite (negsuc n)
+
+-- box and sum on words
+unfoldable pub boxWord : ℤ → ℤ → ℤ
+boxWord a b = wordOf (box (softOf a) (softOf b))
+
+unfoldable pub addWord : ℤ → ℤ → ℤ
+addWord a b = wordOf (plus (softOf a) (softOf b))
+
+-- any 32-bit number but the least
+abbrev pub Word : ℤ → Type 0
+Word z = natAbs z ≤ mark
+
+-- a product of signs is negative exactly if one of the two is
+abbrev pub xor : Bool → Bool → Bool
+xor a b = not (Bool·beq a b)
+
+abbrev pub word : List ℤ → ℕ → ℤ
+word w j = getD w j (pos 0)
+
+-- the soft values of the n words from x on
+unfoldable pub soft : List ℤ → ℕ → ℕ → List Soft
+soft w x n = tabulate n (λ k. softOf (word w (x + k)))
+
+-- w with f 0, .., f (n - 1) stored from index a on
+unfoldable pub write : {A : Type 0} → List A → ℕ → ℕ → (ℕ → A) → List A
+write w a zero f = w
+write w a (suc n) f = set (write w a n f) (a + n) (f n)
+
+-- w with the soft values of M stored from m on
+abbrev pub stored : List ℤ → ℕ → ℕ → List Soft → List ℤ
+stored w m s M = write w m s (λ k. wordOf (M at k))
+
+-- the n words from a and the n words from b share no word
+abbrev pub Apart : ℕ → ℕ → ℕ → Type 0
+Apart n a b = (a + n ≤ b) ⊎ (b + n ≤ a)
+
+-- ---- what the routines that combine halves store
+abbrev pub boxAt : List ℤ → ℕ → ℕ → ℕ → ℤ
+boxAt w a b k = boxWord (word w (a + k)) (word w (b + k))
+
+abbrev pub boxPlus : List ℤ → ℕ → ℕ → ℕ → ℕ → ℤ
+boxPlus w a b c k = boxWord (word w (a + k)) (addWord (word w (b + k)) (word w (c + k)))
+
+abbrev pub plusBox : List ℤ → ℕ → ℕ → ℕ → ℕ → ℤ
+plusBox w a b c k = addWord (boxWord (word w (a + k)) (word w (b + k))) (word w (c + k))
+
+abbrev pub plusFront : List ℤ → ℕ → ℕ → ℤ
+plusFront w d k = addWord (word w (d + k)) (word w k)
+
+-- ---- what they require of the words they read
+abbrev pub Words : List ℤ → ℕ → ℕ → Type 0
+Words w a h = (k : ℕ) → k < h → Word (word w (a + k))
+
+-- a is finite, and the sum is a word
+abbrev pub Added : ℤ → ℤ → Type 0
+Added a b = (natAbs a < mark) × Word (addWord a b)
+
+abbrev pub Sums : List ℤ → ℕ → ℕ → ℕ → Type 0
+Sums w b c h = (k : ℕ) → k < h → Added (word w (b + k)) (word w (c + k))
+
+abbrev pub BoxSums : List ℤ → ℕ → ℕ → ℕ → ℕ → Type 0
+BoxSums w a b c h = (k : ℕ) → k < h → Added (boxWord (word w (a + k)) (word w (b + k))) (word w (c + k))
+
+-- an incoming list whose sums stay below the mark
+pub record Incoming (w : List ℤ) (x s : ℕ) : Type 0 where
+  pub bound : ℕ
+  pub small : (k : ℕ) → k < s → natAbs (word w (x + k)) ≤ bound
+  pub room : bound * s < mark
