@@ -70,11 +70,18 @@ Words w a h = (k : ℕ) → k < h → Word (word w (a + k))
 abbrev pub Added : ℤ → ℤ → Type 0
 Added a b = (natAbs a < mark) × Word (addWord a b)
 
+-- both are finite, and the sum is a word
+abbrev pub Finite : ℤ → ℤ → Type 0
+Finite a b = (natAbs a < mark) × (natAbs b < mark) × Word (addWord a b)
+
 abbrev pub Sums : List ℤ → ℕ → ℕ → ℕ → Type 0
 Sums w b c h = (k : ℕ) → k < h → Added (word w (b + k)) (word w (c + k))
 
 abbrev pub BoxSums : List ℤ → ℕ → ℕ → ℕ → ℕ → Type 0
 BoxSums w a b c h = (k : ℕ) → k < h → Added (boxWord (word w (a + k)) (word w (b + k))) (word w (c + k))
+
+abbrev pub FiniteBoxSums : List ℤ → ℕ → ℕ → ℕ → ℕ → Type 0
+FiniteBoxSums w a b c h = (k : ℕ) → k < h → Finite (boxWord (word w (a + k)) (word w (b + k))) (word w (c + k))
 
 -- an incoming list whose sums stay below the mark
 pub record Incoming (w : List ℤ) (x s : ℕ) : Type 0 where

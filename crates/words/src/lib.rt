@@ -7,7 +7,7 @@ ghost use lib.Signed.{ltZ};
 ghost use lib.ListN.{length, getD};
 ghost use Rattle.model.specs.Scan.{leafValue};
 ghost use Rattle.model.specs.Kinds.{shortcut, rate-0, rate-1, REP, SPC, type-I, type-III};
-ghost use Rattle.words.specs.Words.{boxWord, addWord, Word, Added, word, soft, write, stored, Apart, boxAt, boxPlus, plusBox, plusFront, Words, Sums, BoxSums, Incoming};
+ghost use Rattle.words.specs.Words.{boxWord, addWord, Word, Added, word, soft, write, stored, Apart, boxAt, boxPlus, plusBox, plusFront, Words, Finite, Sums, BoxSums, FiniteBoxSums, Incoming};
 ghost use Rattle.model.specs.Soft.{mark, wordOf};
 ghost use Rattle.words.specs.Sums.{strided, sumZ, sizes, least, next, parity, isOdd, leaveOut};
 
@@ -56,6 +56,14 @@ pub fn add_words(a: i32, b: i32) -> i32
     b + pick_word(b == 2147483647, 0, a)
 }
 
+// The sum of two finite words.
+pub fn add_finite(a: i32, b: i32) -> i32
+    requires { ⌜ Finite a b ⌝ }
+    ensures { λ r. ⌜ r ≡ addWord a b ⌝ }
+{
+    a + b
+}
+
 // w[d + k] = box(w[a + k], w[b + k] + w[c + k])
 pub fn box_plus(w: &mut [i32], d: usize, a: usize, b: usize, c: usize, h: usize)
     requires { ⌜ (d + h ≤ length (now w)) × (a + h ≤ length (now w)) × (b + h ≤ length (now w)) × (c + h ≤ length (now w)) ⌝ }
@@ -87,12 +95,12 @@ fn box_at(w: &mut [i32], d: usize, a: usize, b: usize, h: usize)
 // part[d + k] = part[d + k] + part[k]
 fn add_front(part: &mut [i32], d: usize, h: usize)
     requires { ⌜ (h ≤ d) × (d + h ≤ length (now part)) ⌝ }
-    requires { ⌜ ((k : ℕ) → k < h → Added (word (now part) (d + k)) (word (now part) k)) ⌝ }
+    requires { ⌜ ((k : ℕ) → k < h → Finite (word (now part) (d + k)) (word (now part) k)) ⌝ }
     ensures { λ _. ⌜ now (part .exit) ≡ write (now (part .entry)) d h (plusFront (now (part .entry)) d) ⌝ }
 {
     let mut k = 0;
     while k < h {
-        part[d + k] = add_words(part[d + k], part[k]);
+        part[d + k] = add_finite(part[d + k], part[k]);
         k += 1;
     }
 }
@@ -101,7 +109,7 @@ fn add_front(part: &mut [i32], d: usize, h: usize)
 pub fn plus_box(w: &mut [i32], d: usize, a: usize, b: usize, c: usize, h: usize)
     requires { ⌜ (d + h ≤ length (now w)) × (a + h ≤ length (now w)) × (b + h ≤ length (now w)) × (c + h ≤ d) ⌝ }
     requires { ⌜ Apart h d a × Apart h d b ⌝ }
-    requires { ⌜ Words (now w) a h × Words (now w) b h × BoxSums (now w) a b c h ⌝ }
+    requires { ⌜ Words (now w) a h × Words (now w) b h × FiniteBoxSums (now w) a b c h ⌝ }
     ensures { λ _. ⌜ now (w .exit) ≡ write (now (w .entry)) d h (plusBox (now (w .entry)) a b c) ⌝ }
 {
     box_at(w, d, a, b, h);

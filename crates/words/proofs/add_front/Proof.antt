@@ -12,7 +12,7 @@ use Rattle.words.proofs.add_front.Statement.{statement}
 use Rattle.words.proofs.add_front.Tie as tie
 use Rattle.words.proofs.add_front.Reads as reads
 use Rattle.words.proofs.add_front.Lts as lts
-use Rattle.words.proofs.add_words.Reads as add-words-reads
+use Rattle.words.proofs.add_finite.Reads as add-finite-reads
 
 abbrev Inv-loop : tie.InvT-loop
 Inv-loop part₀ d h k₀ part k = (k ≤ h) × (part ≡ write part₀ d k (plusFront part₀ d)) × (length part ≡ length part₀)
@@ -23,23 +23,23 @@ abbrev μ-loop : tie.MeasureT-loop
 loop-holds : tie.Need-loop-holds Inv-loop μ-loop
 loop-holds c = (omega arith, store-none (pos 0) _ _ _, refl)
 
-add-add-words : tie.Need-add-add-words Inv-loop μ-loop
-add-add-words c = search needs
+add-add-finite : tie.Need-add-add-finite Inv-loop μ-loop
+add-add-finite c = search needs
 
-mul-add-words : tie.Need-mul-add-words Inv-loop μ-loop
-mul-add-words c = search needs
+mul-add-finite : tie.Need-mul-add-finite Inv-loop μ-loop
+mul-add-finite c = search needs
 
-slice-copy-out-add-words : tie.Need-slice-copy-out-add-words Inv-loop μ-loop
-slice-copy-out-add-words c = search needs
+slice-copy-out-add-finite : tie.Need-slice-copy-out-add-finite Inv-loop μ-loop
+slice-copy-out-add-finite c = search needs
 
-mul-add-words-2 : tie.Need-mul-add-words-2 Inv-loop μ-loop
-mul-add-words-2 c = search needs
+mul-add-finite-2 : tie.Need-mul-add-finite-2 Inv-loop μ-loop
+mul-add-finite-2 c = search needs
 
-slice-copy-out-add-words-2 : tie.Need-slice-copy-out-add-words-2 Inv-loop μ-loop
-slice-copy-out-add-words-2 c = search needs
+slice-copy-out-add-finite-2 : tie.Need-slice-copy-out-add-finite-2 Inv-loop μ-loop
+slice-copy-out-add-finite-2 c = search needs
 
-add-words-requires : tie.Need-add-words-requires Inv-loop μ-loop
-add-words-requires c κs =
+add-finite-requires : tie.Need-add-finite-requires Inv-loop μ-loop
+add-finite-requires c κs =
     let in-turn = c .before .before in
     let at-loop = in-turn .before in
     let start = at-loop .before in
@@ -48,7 +48,7 @@ add-words-requires c κs =
     let lt = in-turn .loop-test .taken in
     let own = source-above (pos 0) (a .part .now) (at-loop .loop .part) (a .d) (at-loop .loop .k) (plusFront (a .part .now) (a .d)) (a .d + at-loop .loop .k) e (omega arith) in
     let front = source-below (pos 0) (a .part .now) (at-loop .loop .part) (a .d) (at-loop .loop .k) (plusFront (a .part .now) (a .d)) (at-loop .loop .k) e (omega arith) in
-    rw (back (c .before .add-words-arg .given), back (c .add-words-arg2 .given), own, front) (start .pre .1 (at-loop .loop .k) lt)
+    rw (back (c .before .add-finite-arg .given), back (c .add-finite-arg2 .given), own, front) (start .pre .1 (at-loop .loop .k) lt)
 
 add-t14 : tie.Need-add-t14 Inv-loop μ-loop
 add-t14 c = search needs
@@ -74,7 +74,7 @@ loop-again c =
     let e = at-loop .loop .inv .1 in
     let own = source-above (pos 0) (a .part .now) (at-loop .loop .part) (a .d) (at-loop .loop .k) (plusFront (a .part .now) (a .d)) (a .d + at-loop .loop .k) e (omega arith) in
     let front = source-below (pos 0) (a .part .now) (at-loop .loop .part) (a .d) (at-loop .loop .k) (plusFront (a .part .now) (a .d)) (at-loop .loop .k) e (omega arith) in
-    (omega arith, store-more (pos 0) (a .part .now) (at-loop .loop .part) (a .d) (at-loop .loop .k) _ (plusFront (a .part .now) (a .d)) e (back (c .add-words .ok) ∙ c .add-words .ensures ∙ ap₂ addWord (back (c .before .before .add-words-arg .given) ∙ own) (back (c .before .add-words-arg2 .given) ∙ front)), simp length-set (at-loop .loop .inv .2))
+    (omega arith, store-more (pos 0) (a .part .now) (at-loop .loop .part) (a .d) (at-loop .loop .k) _ (plusFront (a .part .now) (a .d)) e (back (c .add-finite .ok) ∙ c .add-finite .ensures ∙ ap₂ addWord (back (c .before .before .add-finite-arg .given) ∙ own) (back (c .before .add-finite-arg2 .given) ∙ front)), simp length-set (at-loop .loop .inv .2))
 
 same-length : tie.Need-same-length Inv-loop μ-loop
 same-length c = c .before .loop .inv .2
@@ -92,12 +92,12 @@ add-front-spec =
     Inv-loop
     μ-loop
     loop-holds
-    add-add-words
-    mul-add-words
-    slice-copy-out-add-words
-    mul-add-words-2
-    slice-copy-out-add-words-2
-    add-words-requires
+    add-add-finite
+    mul-add-finite
+    slice-copy-out-add-finite
+    mul-add-finite-2
+    slice-copy-out-add-finite-2
+    add-finite-requires
     add-t14
     mul-t15
     slice-set-from-part

@@ -1,6 +1,6 @@
 use Rattle.words.proofs.Steps.{plus-box-law, front-own, front-other}
 use mathlib.Core.Path.{sym, subst₂}
-use Rattle.words.specs.Words.{Added}
+use Rattle.words.specs.Words.{Finite}
 use native.Mathlib.Omega.{arith}
 use borrow.Author.Needs.{needs}
 use Rattle.words.proofs.plus_box.Statement.{statement}
@@ -34,7 +34,7 @@ add-front-requires c κs =
     let start = called .before .before in
     let a = start .args in
     let len = called .box-at .kept .0 in
-    (omega arith, λ k lt. subst₂ Added (sym (front-own (a .w .now) (called .box-at .last .0) (a .d) (a .a) (a .b) (a .c) (a .h) (start .pre .0 .0) (start .pre .0 .3) (called .box-at .ensures) k lt)) (sym (front-other (a .w .now) (called .box-at .last .0) (a .d) (a .a) (a .b) (a .c) (a .h) (start .pre .0 .0) (start .pre .0 .3) (called .box-at .ensures) k lt)) (start .pre .1 .1 .2 k lt))
+    (omega arith, λ k lt. subst₂ Finite (sym (front-own (a .w .now) (called .box-at .last .0) (a .d) (a .a) (a .b) (a .c) (a .h) (start .pre .0 .0) (start .pre .0 .3) (called .box-at .ensures) k lt)) (sym (front-other (a .w .now) (called .box-at .last .0) (a .d) (a .a) (a .b) (a .c) (a .h) (start .pre .0 .0) (start .pre .0 .3) (called .box-at .ensures) k lt)) (start .pre .1 .1 .2 k lt))
 
 same-length : tie.Need-same-length
 same-length c = search needs
