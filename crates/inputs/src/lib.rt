@@ -21,7 +21,8 @@ pub fn exponent_of(n: usize) -> usize
     0
 }
 
-fn larger(a: u8, b: u8) -> u8
+// The larger of two bytes.
+pub fn larger(a: u8, b: u8) -> u8
     ensures { λ r. ⌜ r ≡ max a b ⌝ }
 {
     if a < b { b } else { a }

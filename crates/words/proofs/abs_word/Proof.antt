@@ -2,8 +2,6 @@ use mir.Facts.{toZ-ofZ}
 use Rattle.words.proofs.Signed.{neg-fits, abs-yes, abs-no, ltZ-zero}
 use Rattle.words.proofs.abs_word.Statement.{statement}
 use Rattle.words.proofs.abs_word.Tie as tie
-use Rattle.words.proofs.abs_word.Reads as reads
-use Rattle.words.proofs.abs_word.Lts as lts
 
 sub-result : tie.Need-sub-result
 sub-result c = rw (toZ-ofZ (c .before .fits .a)) (neg-fits (c .before .args .a) (c .before .pre))

@@ -10,9 +10,6 @@ use Rattle.words.specs.Words.{write, addWord, plusFront}
 use Rattle.words.proofs.Store.{store-none, store-more, source-above, source-below}
 use Rattle.words.proofs.add_front.Statement.{statement}
 use Rattle.words.proofs.add_front.Tie as tie
-use Rattle.words.proofs.add_front.Reads as reads
-use Rattle.words.proofs.add_front.Lts as lts
-use Rattle.words.proofs.add_finite.Reads as add-finite-reads
 
 abbrev Inv-loop : tie.InvT-loop
 Inv-loop part₀ d h k₀ part k = (k ≤ h) × (part ≡ write part₀ d k (plusFront part₀ d)) × (length part ≡ length part₀)

@@ -13,9 +13,6 @@ use Rattle.words.proofs.Laws.{add-by}
 use borrow.Author.Needs.{needs}
 use Rattle.words.proofs.add_words.Statement.{statement}
 use Rattle.words.proofs.add_words.Tie as tie
-use Rattle.words.proofs.add_words.Reads as reads
-use Rattle.words.proofs.add_words.Lts as lts
-use Rattle.words.proofs.pick_word.Reads as pick-word-reads
 
 pick-word-requires : tie.Need-pick-word-requires
 pick-word-requires c κs = search needs

@@ -10,9 +10,6 @@ use Rattle.words.specs.Words.{write, boxWord, boxAt}
 use Rattle.words.proofs.Store.{store-none, store-more, source}
 use Rattle.words.proofs.box_at.Statement.{statement}
 use Rattle.words.proofs.box_at.Tie as tie
-use Rattle.words.proofs.box_at.Reads as reads
-use Rattle.words.proofs.box_at.Lts as lts
-use Rattle.words.proofs.box_words.Reads as box-words-reads
 
 abbrev Inv-loop : tie.InvT-loop
 Inv-loop w₀ d a b h k₀ w k = (k ≤ h) × (w ≡ write w₀ d k (boxAt w₀ a b)) × (length w ≡ length w₀)

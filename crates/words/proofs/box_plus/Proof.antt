@@ -10,10 +10,6 @@ use Rattle.words.specs.Words.{write, boxWord, addWord, boxPlus}
 use Rattle.words.proofs.Store.{store-none, store-more, source}
 use Rattle.words.proofs.box_plus.Statement.{statement}
 use Rattle.words.proofs.box_plus.Tie as tie
-use Rattle.words.proofs.box_plus.Reads as reads
-use Rattle.words.proofs.box_plus.Lts as lts
-use Rattle.words.proofs.add_words.Reads as add-words-reads
-use Rattle.words.proofs.box_words.Reads as box-words-reads
 
 abbrev Inv-loop : tie.InvT-loop
 Inv-loop w₀ d a b c h k₀ w k = (k ≤ h) × (w ≡ write w₀ d k (boxPlus w₀ a b c)) × (length w ≡ length w₀)

@@ -11,10 +11,6 @@ use Rattle.words.proofs.Laws.{boxWord-is}
 use borrow.Author.Needs.{needs}
 use Rattle.words.proofs.box_words.Statement.{statement}
 use Rattle.words.proofs.box_words.Tie as tie
-use Rattle.words.proofs.box_words.Reads as reads
-use Rattle.words.proofs.box_words.Lts as lts
-use Rattle.words.proofs.max_word.Reads as max-word-reads
-use Rattle.words.proofs.min_word.Reads as min-word-reads
 
 min-word-requires : tie.Need-min-word-requires
 min-word-requires c κs = search needs

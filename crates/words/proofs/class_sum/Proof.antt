@@ -12,8 +12,6 @@ use Rattle.words.specs.Sums.{strided, sumZ, sizes}
 use borrow.Author.Needs.{needs}
 use Rattle.words.proofs.class_sum.Statement.{statement}
 use Rattle.words.proofs.class_sum.Tie as tie
-use Rattle.words.proofs.class_sum.Reads as reads
-use Rattle.words.proofs.class_sum.Lts as lts
 
 abbrev Inv-loop : tie.InvT-loop
 Inv-loop l d c t₀ i₀ t i =

@@ -10,8 +10,6 @@ use Rattle.words.proofs.Store.{store-none, store-more}
 use borrow.Author.Needs.{needs}
 use Rattle.words.proofs.copy_words.Statement.{statement}
 use Rattle.words.proofs.copy_words.Tie as tie
-use Rattle.words.proofs.copy_words.Reads as reads
-use Rattle.words.proofs.copy_words.Lts as lts
 
 abbrev Inv-loop : tie.InvT-loop
 Inv-loop w x out₀ m n k₀ out k = (k ≤ n) × (out ≡ write out₀ m k (λ j. word w (x + j))) × (length out ≡ length out₀)

@@ -12,8 +12,6 @@ use Rattle.words.proofs.Store.{store-none, store-more}
 use borrow.Author.Needs.{needs}
 use Rattle.words.proofs.fill.Statement.{statement}
 use Rattle.words.proofs.fill.Tie as tie
-use Rattle.words.proofs.fill.Reads as reads
-use Rattle.words.proofs.fill.Lts as lts
 
 abbrev Inv-loop : tie.InvT-loop
 Inv-loop w₀ m s v k₀ w k = (k ≤ s) × (w ≡ write w₀ m k (λ j. toZ w32 v)) × (length w ≡ length w₀)

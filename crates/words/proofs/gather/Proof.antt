@@ -15,11 +15,6 @@ use Rattle.words.specs.Sums.{strided}
 use borrow.Author.Needs.{needs}
 use Rattle.words.proofs.gather.Statement.{statement}
 use Rattle.words.proofs.gather.Tie as tie
-use Rattle.words.proofs.gather.Reads as reads
-use Rattle.words.proofs.gather.Lts as lts
-use Rattle.words.proofs.max_size.Reads as max-size-reads
-use Rattle.words.proofs.min_size.Reads as min-size-reads
-use Rattle.words.proofs.size_word.Reads as size-word-reads
 
 abbrev Inv-loop : tie.InvT-loop
 Inv-loop l d c m1₀ m2₀ neg₀ i₀ m1 m2 neg i =

@@ -2,8 +2,6 @@ use Rattle.model.specs.Scan.{leafValue}
 use borrow.Author.Tests.{eq-eqb, ne-eqb}
 use Rattle.words.proofs.leaf_word.Statement.{statement}
 use Rattle.words.proofs.leaf_word.Tie as tie
-use Rattle.words.proofs.leaf_word.Reads as reads
-use Rattle.words.proofs.leaf_word.Lts as lts
 
 returns : tie.Need-returns
 unfolding leafValue

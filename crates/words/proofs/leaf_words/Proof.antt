@@ -12,9 +12,6 @@ use Rattle.model.specs.Scan.{leafValue}
 use borrow.Author.Needs.{needs}
 use Rattle.words.proofs.leaf_words.Statement.{statement}
 use Rattle.words.proofs.leaf_words.Tie as tie
-use Rattle.words.proofs.leaf_words.Reads as reads
-use Rattle.words.proofs.leaf_words.Lts as lts
-use Rattle.words.proofs.leaf_word.Reads as leaf-word-reads
 
 abbrev Inv-loop : tie.InvT-loop
 Inv-loop w₀ m mask k₀ w k = (k ≤ length mask) × (w ≡ write w₀ m k (λ j. wordOf (leafValue (getD mask j 0)))) × (length w ≡ length w₀)

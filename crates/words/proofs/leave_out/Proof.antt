@@ -13,11 +13,6 @@ use Rattle.words.proofs.Laws.{signed-is}
 use borrow.Author.Needs.{needs}
 use Rattle.words.proofs.leave_out.Statement.{statement}
 use Rattle.words.proofs.leave_out.Tie as tie
-use Rattle.words.proofs.leave_out.Reads as reads
-use Rattle.words.proofs.leave_out.Lts as lts
-use Rattle.words.proofs.pick_size.Reads as pick-size-reads
-use Rattle.words.proofs.size_word.Reads as size-word-reads
-use Rattle.words.proofs.with_sign.Reads as with-sign-reads
 
 size-word-requires : tie.Need-size-word-requires
 size-word-requires c κs = search needs

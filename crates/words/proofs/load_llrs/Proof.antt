@@ -10,8 +10,6 @@ use Rattle.words.proofs.Store.{store-none, store-more}
 use borrow.Author.Needs.{needs}
 use Rattle.words.proofs.load_llrs.Statement.{statement}
 use Rattle.words.proofs.load_llrs.Tie as tie
-use Rattle.words.proofs.load_llrs.Reads as reads
-use Rattle.words.proofs.load_llrs.Lts as lts
 
 abbrev Inv-loop : tie.InvT-loop
 Inv-loop w₀ m llrs k₀ w k = (k ≤ length llrs) × (w ≡ write w₀ m k (word llrs)) × (length w ≡ length w₀)

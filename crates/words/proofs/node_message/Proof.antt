@@ -12,10 +12,6 @@ use Rattle.words.proofs.Store.{store-both, source-both}
 use borrow.Author.Needs.{needs}
 use Rattle.words.proofs.node_message.Statement.{statement}
 use Rattle.words.proofs.node_message.Tie as tie
-use Rattle.words.proofs.node_message.Reads as reads
-use Rattle.words.proofs.node_message.Lts as lts
-use Rattle.words.proofs.add_words.Reads as add-words-reads
-use Rattle.words.proofs.box_words.Reads as box-words-reads
 
 abbrev Inv-loop : tie.InvT-loop
 Inv-loop w₀ m x l h y r g k₀ w k = (k ≤ h) × (w ≡ write (write w₀ m k (boxPlus w₀ l (x + h) (l + h))) (m + h) k (plusBox w₀ x l (l + h))) × (length w ≡ length w₀)

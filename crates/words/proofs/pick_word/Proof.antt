@@ -1,8 +1,6 @@
 use mir.Facts.{toZ-ofZ}
 use Rattle.words.proofs.pick_word.Statement.{statement}
 use Rattle.words.proofs.pick_word.Tie as tie
-use Rattle.words.proofs.pick_word.Reads as reads
-use Rattle.words.proofs.pick_word.Lts as lts
 
 returns : tie.Need-returns
 returns c = rw (toZ-ofZ (c .before .fits .x), c .if1 .taken)

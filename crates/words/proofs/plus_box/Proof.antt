@@ -5,10 +5,6 @@ use native.Mathlib.Omega.{arith}
 use borrow.Author.Needs.{needs}
 use Rattle.words.proofs.plus_box.Statement.{statement}
 use Rattle.words.proofs.plus_box.Tie as tie
-use Rattle.words.proofs.plus_box.Reads as reads
-use Rattle.words.proofs.plus_box.Lts as lts
-use Rattle.words.proofs.add_front.Reads as add-front-reads
-use Rattle.words.proofs.box_at.Reads as box-at-reads
 
 box-at-requires : tie.Need-box-at-requires
 box-at-requires c κs = search needs

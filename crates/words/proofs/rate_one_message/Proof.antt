@@ -6,9 +6,6 @@ use Rattle.words.proofs.Messages.{rate-one-value}
 use borrow.Author.Needs.{needs}
 use Rattle.words.proofs.rate_one_message.Statement.{statement}
 use Rattle.words.proofs.rate_one_message.Tie as tie
-use Rattle.words.proofs.rate_one_message.Reads as reads
-use Rattle.words.proofs.rate_one_message.Lts as lts
-use Rattle.words.proofs.fill.Reads as fill-reads
 
 fill-requires : tie.Need-fill-requires
 fill-requires c κs = search needs

@@ -9,9 +9,6 @@ use Rattle.words.proofs.Signed.{back}
 use borrow.Author.Needs.{needs}
 use Rattle.words.proofs.size_word.Statement.{statement}
 use Rattle.words.proofs.size_word.Tie as tie
-use Rattle.words.proofs.size_word.Reads as reads
-use Rattle.words.proofs.size_word.Lts as lts
-use Rattle.words.proofs.abs_word.Reads as abs-word-reads
 
 abs-word-requires : tie.Need-abs-word-requires
 abs-word-requires c κs = search needs

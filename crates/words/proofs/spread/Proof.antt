@@ -13,11 +13,6 @@ use Rattle.words.proofs.Store.{store-none, store-more, source-above}
 use borrow.Author.Needs.{needs}
 use Rattle.words.proofs.spread.Statement.{statement}
 use Rattle.words.proofs.spread.Tie as tie
-use Rattle.words.proofs.spread.Reads as reads
-use Rattle.words.proofs.spread.Lts as lts
-use Rattle.words.proofs.leave_out.Reads as leave-out-reads
-use Rattle.words.proofs.pick_bool.Reads as pick-bool-reads
-use Rattle.words.proofs.pick_size.Reads as pick-size-reads
 
 abbrev Inv-loop : tie.InvT-loop
 Inv-loop w₀ m x s a1 a2 an b1 b2 bn k₀ w k = (k ≤ s) × (w ≡ write w₀ m k (λ j. leaveOut (cond (isOdd j) b1 a1) (cond (isOdd j) b2 a2) (cond (isOdd j) bn an) (word w₀ (x + j)))) × (length w ≡ length w₀)

@@ -15,9 +15,6 @@ use Rattle.words.proofs.Store.{store-none, store-more, source-above}
 use borrow.Author.Needs.{needs}
 use Rattle.words.proofs.subtract.Statement.{statement}
 use Rattle.words.proofs.subtract.Tie as tie
-use Rattle.words.proofs.subtract.Reads as reads
-use Rattle.words.proofs.subtract.Lts as lts
-use Rattle.words.proofs.pick_word.Reads as pick-word-reads
 
 abbrev Inv-loop : tie.InvT-loop
 Inv-loop w₀ m x s a b k₀ w k = (k ≤ s) × (w ≡ write w₀ m k (λ j. cond (isOdd j) (toZ w32 b) (toZ w32 a) -ℤ word w₀ (x + j))) × (length w ≡ length w₀)

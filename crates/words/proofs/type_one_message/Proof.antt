@@ -14,10 +14,6 @@ use Rattle.words.proofs.Messages.{partOf, part-sizes, one-value, one-fi
 use borrow.Author.Needs.{needs}
 use Rattle.words.proofs.type_one_message.Statement.{statement}
 use Rattle.words.proofs.type_one_message.Tie as tie
-use Rattle.words.proofs.type_one_message.Reads as reads
-use Rattle.words.proofs.type_one_message.Lts as lts
-use Rattle.words.proofs.class_sum.Reads as class-sum-reads
-use Rattle.words.proofs.subtract.Reads as subtract-reads
 
 add-e : tie.Need-add-e
 add-e c = search needs

@@ -11,10 +11,6 @@ use Rattle.words.proofs.Messages.{partOf, words-in, part-words, three-v
 use borrow.Author.Needs.{needs}
 use Rattle.words.proofs.type_three_message.Statement.{statement}
 use Rattle.words.proofs.type_three_message.Tie as tie
-use Rattle.words.proofs.type_three_message.Reads as reads
-use Rattle.words.proofs.type_three_message.Lts as lts
-use Rattle.words.proofs.gather.Reads as gather-reads
-use Rattle.words.proofs.spread.Reads as spread-reads
 
 add-e : tie.Need-add-e
 add-e c = search needs

@@ -3,8 +3,6 @@ use lib.IntN.{negℤ, +ℤ-idl}
 use Rattle.words.proofs.Signed.{neg-fits}
 use Rattle.words.proofs.with_sign.Statement.{statement}
 use Rattle.words.proofs.with_sign.Tie as tie
-use Rattle.words.proofs.with_sign.Reads as reads
-use Rattle.words.proofs.with_sign.Lts as lts
 
 sub-result : tie.Need-sub-result
 sub-result c = rw (toZ-ofZ (c .before .fits .m)) (neg-fits (c .before .args .m) (c .before .pre))

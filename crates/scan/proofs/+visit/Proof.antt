@@ -1,0 +1,321 @@
+-- `visit` meets its contract. The measure is the stage. What each call asks, and what the last one ends, is a field of `Run`; lengths and places
+-- are linear arithmetic over the numbers of `Geo`. Assumes nothing.
+use mathlib.Core.Path.{_≡_, sym, ap, _∙_, subst}
+use mathlib.Core.Bool.{Bool, _&&_}
+use mathlib.Core.Option.{Option}
+use Prim.Native.Nat.{ℕ, _<_, _+_, _*_, _-_, _/_, _^_}
+use native.Mathlib.Omega.{arith}
+use lib.Dec.{T}
+use lib.ListN.{length, getD}
+use borrow.Author.Tests.{eq-eqb, ne-eqb}
+use borrow.Fn.Kinds.{In}
+use borrow.Fn.PlainCycle.{Measures, is, falls, and}
+use Rattle.model.specs.Kinds.{Kind, isSome, kindOf}
+use Rattle.model.specs.Plans.{isRate01}
+use Rattle.scan.specs.Space.{part, cutWords}
+use Rattle.scan.proofs.Nodes.{Geo, geo, inside}
+use Rattle.scan.proofs.Runs.{Run, run, cut-some}
+use Rattle.scan.proofs.Cuts.{not-leaf, kind-part, kind-stage, incoming, visited-cut}
+use Rattle.scan.proofs.+visit.{statement}
+use Rattle.scan.proofs.+visit.Tie.{close}
+use Rattle.scan.proofs.visit.Reads as visit
+use Rattle.scan.proofs.visit.Kinds as visit-kinds
+use Rattle.scan.proofs.+visit.Lts-visit as visit-lts
+use Rattle.kinds.proofs.cut_kind.Reads as cut-kind-reads
+use Rattle.scan.proofs.cut_message.Reads as cut-message-reads
+use Rattle.scan.proofs.is_constant.Reads as is-constant-reads
+use Rattle.scan.proofs.left_list.Reads as left-list-reads
+use Rattle.scan.proofs.right_list.Reads as right-list-reads
+use Rattle.words.proofs.node_message.Reads as node-message-reads
+
+abbrev μ-visit : Measures 3 visit-kinds.ps ℕ
+μ-visit κs a = a .1 .1 .1 .1 .0
+
+abbrev visit-at : ℕ → In 3 visit-kinds.ps
+visit-at t = and 3 visit-kinds.ps (is 3 visit-kinds.ps μ-visit t) visit.Pre
+
+abbrev visit-below : ℕ → In 3 visit-kinds.ps
+visit-below t = and 3 visit-kinds.ps (falls 3 visit-kinds.ps _<_ μ-visit t) visit.Pre
+
+-- what the callees ask and ensure
+abbrev around : ℕ → visit-lts.Claims
+around t = (cut-kind-reads.Asked, cut-kind-reads.Learnt, cut-message-reads.Asked, cut-message-reads.Learnt, is-constant-reads.Asked, is-constant-reads.Learnt, left-list-reads.Asked, left-list-reads.Learnt, visit-below t, visit.Post, right-list-reads.Asked, right-list-reads.Learnt, node-message-reads.Asked, node-message-reads.Learnt)
+
+module _ (t : ℕ) where
+  abbrev Uncut : Type 0
+  Uncut = visit-lts.Else1 (around t) (visit-at t) visit.Post
+
+  -- an uncut node is no leaf
+  above : (c : Uncut) → c .before .before .before .before .args .t ≡ 0 → ⊥
+  above c =
+      let start = c .before .before .before .before in
+      let a = start .args in
+      not-leaf (a .plan .now) (a .t) (a .p) (part (a .mask .now) (a .b) (a .t)) (start .pre .1 .cuts) (c .if1 .left)
+
+  -- its numbers
+  numbers : (c : Uncut) →
+      let a = c .before .before .before .before .args in
+      Geo (a .n) (length (a .work .now)) (length (a .plan .now)) (a .t) (a .s) (a .p) (a .b) (a .x) (a .s / 2) (a .t - 1)
+  numbers c = let room = c .before .before .before .before .pre .1 in geo _ _ _ _ _ _ _ _ (room .size) (room .planned) (above c)
+
+  running : (c : Uncut) →
+      let a = c .before .before .before .before .args in
+      Run (a .plan .now) (a .mask .now) (a .n) (a .t) (a .p) (a .b) (a .x) (a .work .now) (a .s / 2) (a .t - 1) (a .x + a .s)
+  running c =
+      let start = c .before .before .before .before in
+      let a = start .args in
+      run (a .plan .now) (a .mask .now) (a .n) (a .t) (a .s) (a .p) (a .b) (a .x) (a .work .now) (above c) (start .pre .1) (ne-eqb (getD (a .plan .now) (a .p) 0) 1 (c .if1 .left))
+
+  visit-mul-m : visit-lts.Need-mul-m (around t) (visit-at t) visit.Post
+  visit-mul-m c =
+      let start = c .before .before in
+      let a = start .args in
+      let room = start .pre .1 in omega arith
+
+  visit-add-m : visit-lts.Need-add-m (around t) (visit-at t) visit.Post
+  visit-add-m c =
+      let start = c .before .before in
+      let a = start .args in
+      let room = start .pre .1 in omega arith
+
+  visit-shared-slice-read-if1 : visit-lts.Need-shared-slice-read-if1 (around t) (visit-at t) visit.Post
+  visit-shared-slice-read-if1 c =
+      let start = c .before .before .before in
+      let a = start .args in
+      let room = start .pre .1 in inside (a .s) (a .t) (a .p) (length (a .plan .now)) (room .size) (room .planned)
+
+  visit-add-e : visit-lts.Need-add-e (around t) (visit-at t) visit.Post
+  visit-add-e c =
+      let start = c .before .before .before .before in
+      let a = start .args in
+      let room = start .pre .1 in omega arith
+
+  visit-sub-cut-kind : visit-lts.Need-sub-cut-kind (around t) (visit-at t) visit.Post
+  visit-sub-cut-kind c =
+      let start = c .before .before .before .before in
+      let a = start .args in
+      let room = start .pre .1 in omega arith
+
+  visit-part-cut-kind-start : visit-lts.Need-part-cut-kind-start (around t) (visit-at t) visit.Post
+  visit-part-cut-kind-start c =
+      let start = c .before .before .before .before in
+      let a = start .args in
+      let room = start .pre .1 in omega arith
+
+  visit-part-cut-kind-end : visit-lts.Need-part-cut-kind-end (around t) (visit-at t) visit.Post
+  visit-part-cut-kind-end c =
+      let start = c .before .before .before .before in
+      let a = start .args in
+      let room = start .pre .1 in omega arith
+
+  visit-cut-kind-requires : visit-lts.Need-cut-kind-requires (around t) (visit-at t) visit.Post
+  visit-cut-kind-requires c κs =
+      let start = c .before .before .before .before .before in
+      let a = start .args in
+      let room = start .pre .1 in
+      subst (λ (o : Option Kind). T (isSome o)) (sym (kind-part (a .mask .now) (a .b) (a .s) (room .masked) ∙ kind-stage (a .mask .now) (a .b) (a .s) (a .t) (room .size)))
+      (cut-some (a .plan .now) (a .t) (a .p) (part (a .mask .now) (a .b) (a .t)) (eq-eqb (getD (a .plan .now) (a .p) 0) 1 (c .before .if1 .taken)) (room .cuts))
+
+  visit-cut-message-requires : visit-lts.Need-cut-message-requires (around t) (visit-at t) visit.Post
+  visit-cut-message-requires c κs =
+      let start = c .before .before .before .before .before .before .before in
+      let a = start .args in
+      let room = start .pre .1 in (
+        (omega arith, omega arith),
+        λ q. incoming room (ap (λ (x : Bool). x && isRate01 (kindOf (2 ^ a .t) (part (a .mask .now) (a .b) (a .t)))) (eq-eqb (getD (a .plan .now) (a .p) 0) 1 (c .before .before .before .if1 .taken)) ∙ sym (ap isRate01 (c .before .cut-kind .ensures ∙ kind-part (a .mask .now) (a .b) (a .s) (room .masked) ∙ kind-stage (a .mask .now) (a .b) (a .s) (a .t) (room .size))) ∙ q),
+      )
+
+  visit-same-length : visit-lts.Need-same-length (around t) (visit-at t) visit.Post
+  visit-same-length c = c .before .cut-message .kept .0
+
+  visit-returns : visit-lts.Need-returns (around t) (visit-at t) visit.Post
+  visit-returns c =
+      let start = c .before .before .before .before .before .before .before .before .before in
+      let a = start .args in
+      let room = start .pre .1 in
+      visited-cut (a .plan .now) (a .mask .now) (a .n) (a .t) (a .s) (a .p) (a .b) (a .x) (a .work .now) (c .before .cut-message .last .0) room (eq-eqb (getD (a .plan .now) (a .p) 0) 1 (c .before .before .before .before .before .if1 .taken))
+      (c .before .cut-message .ensures ∙ ap (λ (o : Option Kind). cutWords o (a .work .now) (a .t * a .n + a .b) (a .x) (a .s)) (c .before .before .before .cut-kind .ensures ∙ kind-part (a .mask .now) (a .b) (a .s) (room .masked) ∙ kind-stage (a .mask .now) (a .b) (a .s) (a .t) (room .size)))
+
+  visit-sub-u : visit-lts.Need-sub-u (around t) (visit-at t) visit.Post
+  visit-sub-u c =
+      let start = c .before .before .before .before in
+      let a = start .args in
+      let room = start .pre .1 in
+      let el = c in
+      let g = numbers el in omega arith
+
+  visit-mul-l : visit-lts.Need-mul-l (around t) (visit-at t) visit.Post
+  visit-mul-l c =
+      let start = c .before .before .before .before in
+      let a = start .args in
+      let room = start .pre .1 in
+      let el = c in
+      let g = numbers el in omega arith
+
+  visit-add-l : visit-lts.Need-add-l (around t) (visit-at t) visit.Post
+  visit-add-l c =
+      let start = c .before .before .before .before in
+      let a = start .args in
+      let room = start .pre .1 in
+      let el = c in
+      let g = numbers el in omega arith
+
+  visit-add-r : visit-lts.Need-add-r (around t) (visit-at t) visit.Post
+  visit-add-r c =
+      let start = c .before .before .before .before in
+      let a = start .args in
+      let room = start .pre .1 in
+      let el = c in
+      let g = numbers el in omega arith
+
+  visit-add-c : visit-lts.Need-add-c (around t) (visit-at t) visit.Post
+  visit-add-c c =
+      let start = c .before .before .before .before in
+      let a = start .args in
+      let room = start .pre .1 in
+      let el = c in
+      let g = numbers el in omega arith
+
+  visit-mul-q : visit-lts.Need-mul-q (around t) (visit-at t) visit.Post
+  visit-mul-q c =
+      let start = c .before .before .before .before in
+      let a = start .args in
+      let room = start .pre .1 in
+      let el = c in
+      let g = numbers el in omega arith
+
+  visit-add-d : visit-lts.Need-add-d (around t) (visit-at t) visit.Post
+  visit-add-d c =
+      let start = c .before .before .before .before in
+      let a = start .args in
+      let room = start .pre .1 in
+      let el = c in
+      let g = numbers el in omega arith
+
+  visit-is-constant-requires : visit-lts.Need-is-constant-requires (around t) (visit-at t) visit.Post
+  visit-is-constant-requires c κs =
+      let start = c .before .before .before .before in
+      let a = start .args in
+      let room = start .pre .1 in
+      let el = c in
+      let g = numbers el in
+      ((omega arith, omega arith), running el .kind-left)
+
+  visit-left-list-requires : visit-lts.Need-left-list-requires (around t) (visit-at t) visit.Post
+  visit-left-list-requires c κs =
+      let start = c .before .before .before .before .before .before in
+      let a = start .args in
+      let room = start .pre .1 in
+      let el = c .before .before in
+      let g = numbers el in
+      ((omega arith, omega arith, omega arith), running el .one)
+
+  visit-visit-requires : visit-lts.Need-visit-requires (around t) (visit-at t) visit.Post
+  visit-visit-requires c κs =
+      let start = c .before .before .before .before .before .before .before .before .before in
+      let a = start .args in
+      let room = start .pre .1 in
+      let el = c .before .before .before .before .before in
+      let g = numbers el in
+      let len = c .before .before .left-list .kept .0 in
+      (omega arith, running el .two (c .before .before .before .before .is-constant .result) (c .before .before .before .before .is-constant .ensures) (c .before .before .left-list .last .0) (c .before .before .left-list .ensures))
+
+  visit-add-is-constant : visit-lts.Need-add-is-constant (around t) (visit-at t) visit.Post
+  visit-add-is-constant c =
+      let start = c .before .before .before .before .before .before .before .before .before .before .before in
+      let a = start .args in
+      let room = start .pre .1 in
+      let el = c .before .before .before .before .before .before .before in
+      let g = numbers el in
+      let len = c .before .visit .kept .0 ∙ c .before .before .before .before .left-list .kept .0 in
+      omega arith
+
+  visit-is-constant-requires-2 : visit-lts.Need-is-constant-requires-2 (around t) (visit-at t) visit.Post
+  visit-is-constant-requires-2 c κs =
+      let start = c .before .before .before .before .before .before .before .before .before .before .before in
+      let a = start .args in
+      let room = start .pre .1 in
+      let el = c .before .before .before .before .before .before .before in
+      let g = numbers el in
+      let len = c .before .visit .kept .0 ∙ c .before .before .before .before .left-list .kept .0 in
+      ((omega arith, omega arith), running el .kind-right)
+
+  visit-right-list-requires : visit-lts.Need-right-list-requires (around t) (visit-at t) visit.Post
+  visit-right-list-requires c κs =
+      let start = c .before .before .before .before .before .before .before .before .before .before .before .before .before in
+      let a = start .args in
+      let room = start .pre .1 in
+      let el = c .before .before .before .before .before .before .before .before .before in
+      let g = numbers el in
+      let len = c .before .before .before .visit .kept .0 ∙ c .before .before .before .before .before .before .left-list .kept .0 in
+      ((omega arith, omega arith, omega arith), running el .three (c .before .before .before .before .before .before .before .before .is-constant .result) (c .before .before .before .before .before .before .before .before .is-constant .ensures) (c .before .before .before .before .before .before .left-list .last .0) (c .before .before .before .visit .last .0) (c .before .before .before .before .before .before .left-list .ensures) (c .before .before .before .visit .ensures))
+
+  visit-add-visit : visit-lts.Need-add-visit (around t) (visit-at t) visit.Post
+  visit-add-visit c =
+      let start = c .before .before .before .before .before .before .before .before .before .before .before .before .before .before .before .before in
+      let a = start .args in
+      let room = start .pre .1 in
+      let el = c .before .before .before .before .before .before .before .before .before .before .before .before in
+      let g = numbers el in
+      let len = c .before .before .right-list .kept .0 ∙ c .before .before .before .before .before .before .visit .kept .0 ∙ c .before .before .before .before .before .before .before .before .before .left-list .kept .0 in
+      omega arith
+
+  visit-visit-requires-2 : visit-lts.Need-visit-requires-2 (around t) (visit-at t) visit.Post
+  visit-visit-requires-2 c κs =
+      let start = c .before .before .before .before .before .before .before .before .before .before .before .before .before .before .before .before in
+      let a = start .args in
+      let room = start .pre .1 in
+      let el = c .before .before .before .before .before .before .before .before .before .before .before .before in
+      let g = numbers el in
+      let len = c .before .before .right-list .kept .0 ∙ c .before .before .before .before .before .before .visit .kept .0 ∙ c .before .before .before .before .before .before .before .before .before .left-list .kept .0 in
+      (omega arith, running el .four (c .before .before .before .before .before .before .before .before .before .before .before .is-constant .result) (c .before .before .before .before .before .before .before .before .before .before .before .is-constant .ensures) (c .before .before .before .before .before .before .before .before .before .left-list .last .0) (c .before .before .before .before .before .before .visit .last .0) (c .before .before .before .before .before .before .before .before .before .left-list .ensures) (c .before .before .before .before .before .before .visit .ensures) (c .before .before .before .before .is-constant2 .result) (c .before .before .before .before .is-constant2 .ensures) (c .before .before .right-list .last .0) (c .before .before .right-list .ensures))
+
+  visit-node-message-requires : visit-lts.Need-node-message-requires (around t) (visit-at t) visit.Post
+  visit-node-message-requires c κs =
+      let start = c .before .before .before .before .before .before .before .before .before .before .before .before .before .before .before .before .before .before .before in
+      let a = start .args in
+      let room = start .pre .1 in
+      let el = c .before .before .before .before .before .before .before .before .before .before .before .before .before .before .before in
+      let g = numbers el in
+      let len = c .before .before .visit2 .kept .0 ∙ c .before .before .before .before .before .right-list .kept .0 ∙ c .before .before .before .before .before .before .before .before .before .visit .kept .0 ∙ c .before .before .before .before .before .before .before .before .before .before .before .before .left-list .kept .0 in
+      ((omega arith, omega arith, omega arith), running el .five (c .before .before .before .before .before .before .before .before .before .before .before .before .before .before .is-constant .result) (c .before .before .before .before .before .before .before .before .before .before .before .before .before .before .is-constant .ensures) (c .before .before .before .before .before .before .before .before .before .before .before .before .left-list .last .0) (c .before .before .before .before .before .before .before .before .before .visit .last .0) (c .before .before .before .before .before .before .before .before .before .before .before .before .left-list .ensures) (c .before .before .before .before .before .before .before .before .before .visit .ensures) (c .before .before .before .before .before .before .before .is-constant2 .result) (c .before .before .before .before .before .before .before .is-constant2 .ensures) (c .before .before .before .before .before .right-list .last .0) (c .before .before .visit2 .last .0) (c .before .before .before .before .before .right-list .ensures) (c .before .before .visit2 .ensures))
+
+  visit-same-length-2 : visit-lts.Need-same-length-2 (around t) (visit-at t) visit.Post
+  visit-same-length-2 c = c .before .node-message .kept .0 ∙ c .before .before .before .before .visit2 .kept .0 ∙ c .before .before .before .before .before .before .before .right-list .kept .0 ∙ c .before .before .before .before .before .before .before .before .before .before .before .visit .kept .0 ∙ c .before .before .before .before .before .before .before .before .before .before .before .before .before .before .left-list .kept .0
+
+  visit-returns-2 : visit-lts.Need-returns-2 (around t) (visit-at t) visit.Post
+  visit-returns-2 c =
+      let el = c .before .before .before .before .before .before .before .before .before .before .before .before .before .before .before .before .before in
+      running el .done (c .before .before .before .before .before .before .before .before .before .before .before .before .before .before .before .before .is-constant .result) (c .before .before .before .before .before .before .before .before .before .before .before .before .before .before .before .before .is-constant .ensures) (c .before .before .before .before .before .before .before .before .before .before .before .before .before .before .left-list .last .0) (c .before .before .before .before .before .before .before .before .before .before .before .visit .last .0) (c .before .before .before .before .before .before .before .before .before .before .before .before .before .before .left-list .ensures) (c .before .before .before .before .before .before .before .before .before .before .before .visit .ensures) (c .before .before .before .before .before .before .before .before .before .is-constant2 .result) (c .before .before .before .before .before .before .before .before .before .is-constant2 .ensures) (c .before .before .before .before .before .before .before .right-list .last .0) (c .before .before .before .before .visit2 .last .0) (c .before .before .before .before .before .before .before .right-list .ensures) (c .before .before .before .before .visit2 .ensures) (c .before .node-message .last .0) (c .before .node-message .ensures)
+
+pub +visit-spec : {M : Type 1} → statement M
++visit-spec = close μ-visit λ t. visit-lts.spec (around t) (visit-at t) visit.Post
+    (visit-mul-m t)
+    (visit-add-m t)
+    (visit-shared-slice-read-if1 t)
+    (visit-add-e t)
+    (visit-sub-cut-kind t)
+    (visit-part-cut-kind-start t)
+    (visit-part-cut-kind-end t)
+    (visit-cut-kind-requires t)
+    (visit-cut-message-requires t)
+    (visit-same-length t)
+    (visit-returns t)
+    (visit-sub-u t)
+    (visit-mul-l t)
+    (visit-add-l t)
+    (visit-add-r t)
+    (visit-add-c t)
+    (visit-mul-q t)
+    (visit-add-d t)
+    (visit-is-constant-requires t)
+    (visit-left-list-requires t)
+    (visit-visit-requires t)
+    (visit-add-is-constant t)
+    (visit-is-constant-requires-2 t)
+    (visit-right-list-requires t)
+    (visit-add-visit t)
+    (visit-visit-requires-2 t)
+    (visit-node-message-requires t)
+    (visit-same-length-2 t)
+    (visit-returns-2 t)

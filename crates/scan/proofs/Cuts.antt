@@ -1,0 +1,129 @@
+-- A visit of a cut node. Assumes nothing.
+use mathlib.Core.Path.{_≡_, refl, sym, ap, ap₂, _∙_, subst}
+use mathlib.Core.Bool.{Bool, true, false, _&&_}
+use mathlib.Core.Option.{Option, none, some}
+use lib.IntN.{ℤ}
+use mathlib.Core.List.{List}
+use Prim.Native.Nat.{ℕ, zero, suc, _+_, _-_, _*_, _^_, _≤_, _<_}
+use native.Mathlib.Nat.{mul-comm, mul-le-mul-right}
+use native.Mathlib.Omega.{arith}
+use lib.Dec.{T, eqb→eq}
+use lib.ListN.{length, getD, take, drop, length-drop}
+use lib.Seq.{length-take-le}
+use Rattle.model.specs.Lists.{tabulate}
+use Rattle.model.specs.Soft.{Soft, certain, softZero, _at_, box, plus, wordOf}
+use Rattle.model.specs.Scan.{Tree, leaf}
+use Rattle.model.specs.Kinds.{isSome, Kind, rate-0, rate-1, REP, SPC, type-I, type-III, kindOf, shortcut, others}
+use Rattle.model.specs.Plans.{isRate01, isCut, wellCut, walk, putKind, put}
+use Rattle.model.specs.Bounds.{limit, Small, Under, cap}
+use Rattle.model.proofs.Lists.{T-true, double, tabulate-ext, getD-tabulate, and-l, and-r}
+use Rattle.model.proofs.PlannedWalk.{walk-cut}
+use Rattle.model.proofs.Paths.{wellCut-cut}
+use Rattle.model.proofs.Bounds.{shortcut-under, under-mono}
+use Rattle.words.specs.Words.{word, softOf, soft, stored, Incoming}
+use Rattle.words.proofs.Laws.{soft-word, soft-at, small-size}
+use Rattle.scan.specs.Space.{constant, treeAt, part, Room, Visited, cutWords}
+use Rattle.scan.proofs.Keep.{Fit, kept-row, node-path, under, stored-at}
+use Rattle.scan.proofs.Runs.{fit-room, walk-at-cut, cut-some}
+
+-- a list made by a formula is made by its own places
+own-places : (n : ℕ) (f : ℕ → Soft) → tabulate n f ≡ tabulate n (λ k. tabulate n f at k)
+own-places n f = tabulate-ext n f (λ k. tabulate n f at k) (λ k lt. sym (getD-tabulate n f k softZero lt))
+
+pub shortcut-list : (k : Kind) (n : ℕ) (L : List Soft) → shortcut k n L ≡ tabulate n (λ j. shortcut k n L at j)
+unfolding shortcut
+shortcut-list rate-0 n L = own-places n (λ k. certain)
+shortcut-list rate-1 n L = own-places n (λ k. softZero)
+shortcut-list REP n L = own-places n (others plus softZero 1 n L)
+shortcut-list SPC n L = own-places n (others box certain 1 n L)
+shortcut-list type-I n L = own-places n (others plus softZero 2 n L)
+shortcut-list type-III n L = own-places n (others box certain 2 n L)
+
+-- a leaf of a plan that is well cut is cut
+pub leaf-cut : (plan : List ℕ) (p : ℕ) (mask : List ℕ) → T (wellCut plan 0 p mask) → isCut plan p ≡ true
+unfolding wellCut
+leaf-cut plan p mask w = T-true (isCut plan p) (and-l (isCut plan p) (isSome (kindOf 1 mask)) w)
+
+-- the tree after a message was stored in the row of its root
+put-tree : (N t b x : ℕ) (w v : List ℤ) (M : List Soft) → Fit N t b x (length w) → v ≡ stored w (t * N + b) (2 ^ t) M → soft v (t * N + b) (2 ^ t) ≡ M → treeAt N v t b ≡ put M (treeAt N w t b)
+unfolding treeAt
+put-tree N zero b x w v M fit e q = ap leaf q
+put-tree N (suc t) b x w v M fit e q =
+    let two : 2 ^ suc t ≡ 2 ^ t + 2 ^ t = double t in
+    node-path q
+    (under N t b w v (suc t * N + b) (2 ^ suc t) _ e (omega arith) (omega (arith, fit .within)))
+    (under N t (b + 2 ^ t) w v (suc t * N + b) (2 ^ suc t) _ e (omega arith) (omega (arith, fit .within)))
+
+module _ (plan mask : List ℕ) (N t s p b x : ℕ) (w v : List ℤ) (room : Room plan mask N t s p b x w) (yes : isCut plan p ≡ true) where
+  abbrev L : List Soft
+  L = soft w x (2 ^ t)
+
+  cap-top : cap t (room .bound) ≤ limit
+  cap-top =
+      let m : (2 ^ t - 1) * room .bound ≤ 2 ^ t * room .bound = mul-le-mul-right (room .bound) (omega arith) in
+      omega (arith, room .limited, mul-comm (2 ^ t) (room .bound))
+
+  -- a kind's message stays within the limit
+  message-limit : (k : Kind) → kindOf (2 ^ t) (part mask b t) ≡ some k → (j : ℕ) → j < 2 ^ t → Under limit (shortcut k (2 ^ t) L at j)
+  unfolding shortcut
+  message-limit k e = go k refl
+    where
+      looked : (k : Kind) → kindOf (2 ^ t) (part mask b t) ≡ some k → isRate01 (some k) ≡ false → (j : ℕ) → j < 2 ^ t → Under limit (shortcut k (2 ^ t) L at j)
+      looked k e q j lt =
+          under-mono (shortcut k (2 ^ t) L at j) cap-top
+          (shortcut-under t (room .bound) (part mask b t) k L e (room .small (ap₂ (λ (x y : Bool). x && y) yes (ap isRate01 e ∙ q))) j lt)
+
+      go : (x : Kind) → k ≡ x → (j : ℕ) → j < 2 ^ t → Under limit (shortcut k (2 ^ t) L at j)
+      go rate-0 p j lt = subst (λ (y : Kind). Under limit (shortcut y (2 ^ t) L at j)) (sym p) (rw (getD-tabulate (2 ^ t) (λ i. certain) j softZero lt) tt)
+      go rate-1 p j lt = subst (λ (y : Kind). Under limit (shortcut y (2 ^ t) L at j)) (sym p) (rw (getD-tabulate (2 ^ t) (λ i. softZero) j softZero lt) (omega arith))
+      go REP p j lt = looked k e (ap (λ (y : Kind). isRate01 (some y)) p) j lt
+      go SPC p j lt = looked k e (ap (λ (y : Kind). isRate01 (some y)) p) j lt
+      go type-I p j lt = looked k e (ap (λ (y : Kind). isRate01 (some y)) p) j lt
+      go type-III p j lt = looked k e (ap (λ (y : Kind). isRate01 (some y)) p) j lt
+
+  read-back : (k : Kind) → kindOf (2 ^ t) (part mask b t) ≡ some k → v ≡ stored w (t * N + b) (2 ^ t) (shortcut k (2 ^ t) L) → soft v (t * N + b) (2 ^ t) ≡ shortcut k (2 ^ t) L
+  unfolding soft
+  read-back k e q =
+      tabulate-ext (2 ^ t) _ (λ j. shortcut k (2 ^ t) L at j) (λ j lt.
+      ap softOf (stored-at w v (t * N + b) (2 ^ t) (λ i. wordOf (shortcut k (2 ^ t) L at i)) j q lt (omega (arith, fit-room room .fit, room .rows, fit-room room .within)))
+      ∙ soft-word limit (shortcut k (2 ^ t) L at j) (omega arith) (message-limit k e j lt))
+      ∙ sym (shortcut-list k (2 ^ t) L)
+
+  pub visited-cut : v ≡ cutWords (kindOf (2 ^ t) (part mask b t)) w (t * N + b) x s → Visited plan mask N t p b x w v
+  visited-cut q =
+      go (kindOf (2 ^ t) (part mask b t)) refl (cut-some plan t p (part mask b t) yes (room .cuts))
+      (q ∙ ap (λ (z : ℕ). cutWords (kindOf (2 ^ t) (part mask b t)) w (t * N + b) x z) (room .size))
+    where
+      go : (o : Option Kind) → kindOf (2 ^ t) (part mask b t) ≡ o → T (isSome o) → v ≡ cutWords (kindOf (2 ^ t) (part mask b t)) w (t * N + b) x (2 ^ t) → Visited plan mask N t p b x w v
+      go none e k r = absurd k
+      go (some k) e y r =
+          let r′ : v ≡ stored w (t * N + b) (2 ^ t) (shortcut k (2 ^ t) L) = r ∙ ap (λ (o : Option Kind). cutWords o w (t * N + b) x (2 ^ t)) e in
+          record {
+            tree = put-tree N t b x w v (shortcut k (2 ^ t) L) (fit-room room) r′ (read-back k e r′)
+                ∙ sym (walk-at-cut plan t p (part mask b t) (treeAt N w t b) L yes ∙ ap (λ (o : Option Kind). putKind o (2 ^ t) L (treeAt N w t b)) e);
+            kept = kept-row N t b x w v _ (fit-room room) (t * N + b) (2 ^ t) r′ (omega arith) (omega arith);
+          }
+
+-- ---- in the code's terms
+pub not-leaf : (plan : List ℕ) (t p : ℕ) (mask : List ℕ) → T (wellCut plan t p mask) → (getD plan p 0 ≡ 1 → ⊥) → t ≡ 0 → ⊥
+not-leaf plan zero p mask w ne e = ne (eqb→eq (getD plan p 0) 1 (subst T (sym (leaf-cut plan p mask w)) tt))
+not-leaf plan (suc t) p mask w ne e = omega arith
+
+-- the kind found from the part of the mask
+pub kind-part : (mask : List ℕ) (b s : ℕ) → b + s ≤ length mask
+    → kindOf (length (take (b + s - b) (drop b mask))) (take (b + s - b) (drop b mask)) ≡ kindOf s (take s (drop b mask))
+kind-part mask b s le =
+    let n : b + s - b ≡ s = omega arith in
+    ap (λ (k : ℕ). kindOf (length (take k (drop b mask))) (take k (drop b mask))) n
+    ∙ ap (λ (k : ℕ). kindOf k (take s (drop b mask))) (length-take-le s (drop b mask) (omega (arith, length-drop b mask)))
+
+pub kind-stage : (mask : List ℕ) (b s t : ℕ) → s ≡ 2 ^ t → kindOf s (take s (drop b mask)) ≡ kindOf (2 ^ t) (part mask b t)
+kind-stage mask b s t size = ap (λ (k : ℕ). kindOf k (take k (drop b mask))) size
+
+-- what the message of a cut node requires of its incoming list
+pub incoming : {plan mask : List ℕ} {N t s p b x : ℕ} {w : List ℤ} → Room plan mask N t s p b x w → constant plan (2 ^ t) p (part mask b t) ≡ false → Incoming w x s
+incoming {t = t} {s = s} {x = x} {w = w} room q = record {
+  bound = room .bound;
+  small = λ k lt. small-size (room .bound) (word w (x + k)) (subst (Small (room .bound)) (soft-at w x (2 ^ t) k (omega (arith, room .size))) (room .small q k (omega (arith, room .size))));
+  room = omega (arith, room .limited, ap (λ (z : ℕ). room .bound * z) (room .size));
+}

@@ -1,0 +1,311 @@
+-- The steps of a visit: what each asks holds, and together they are the walk's. Assumes nothing.
+use mathlib.Core.Path.{_≡_, refl, sym, ap, ap₂, _∙_, subst, subst₃}
+use mathlib.Core.Bool.{Bool, true, false, cond, _&&_}
+use lib.IntN.{ℤ, pos}
+use mathlib.Core.List.{List}
+use Prim.Native.Nat.{ℕ, zero, suc, _+_, _-_, _*_, _/_, _^_, _≤_}
+use native.Mathlib.Nat.{suc-mul, mul-add, mul-assoc, mul-comm, mul-le-mul-left, mul-le-mul-right, add-mul}
+use native.Mathlib.Omega.{arith}
+use lib.Dec.{T}
+use mathlib.Core.Option.{Option, none, some}
+use lib.Pow.{pow-pos}
+use lib.ListN.{length, take, drop}
+use Rattle.model.specs.Soft.{Soft}
+use Rattle.model.specs.Scan.{Tree, message, toLeft, toRight, toNode}
+use Rattle.model.specs.Kinds.{isSome, Kind, rate-0, rate-1, REP, SPC, type-I, type-III, kindOf, shortcut}
+use Rattle.model.specs.Plans.{isRate01, putKind, isCut, wellCut, walk}
+use Rattle.model.specs.Bounds.{limit, SmallAll, UnderAll, Held, cap}
+use Rattle.model.proofs.Lists.{T-true, true-T, double, tabulate-halves, and-l, and-r}
+use Rattle.model.proofs.PlannedWalk.{walk-cut, walk-through, descend}
+use Rattle.model.proofs.Paths.{wellCut-cut, wellCut-through}
+use Rattle.model.proofs.Bounds.{cap-suc, small-toLeft, small-toRight, held-walk, held-message}
+use Rattle.words.specs.Words.{FiniteBoxSums, word, softOf, soft, write, boxPlus, plusBox, Words, Sums, BoxSums}
+use Rattle.words.proofs.Store.{source-below, length-write}
+use Rattle.scan.specs.Space.{constant, treeAt, part, Room, Visited}
+use Rattle.scan.proofs.Keep.{Fit, node-path, part-left, part-right}
+use Rattle.scan.proofs.Mids.{Mid, mid-start, mid-scratch, mid-row, mid-left, mid-right, words-list, words-left, right-sums, right-list, left-sums, left-list, up-sums, low-half, high-half}
+
+-- ---- the stores of an uncut visit: h is half the size, u the stage below, c the place of the child's incoming list
+-- a child's incoming list is stored unless the child is constant
+abbrev pub LeftList : (N b x h u c : ℕ) → Bool → (w v : List ℤ) → Type 0
+LeftList N b x h u c skip w v = v ≡ cond skip w (write w c h (boxPlus w x (x + h) (u * N + b + h)))
+
+abbrev pub RightList : (N b x h u c : ℕ) → Bool → (w v : List ℤ) → Type 0
+RightList N b x h u c skip w v = v ≡ cond skip w (write w c h (plusBox w x (u * N + b) (x + h)))
+
+abbrev pub NodeStored : (N t b x h u : ℕ) → (w v : List ℤ) → Type 0
+NodeStored N t b x h u w v =
+    v ≡ write (write w (t * N + b) h (boxPlus w (u * N + b) (x + h) (u * N + b + h))) (t * N + b + h) h (plusBox w x (u * N + b) (u * N + b + h))
+
+-- whether a child is constant
+abbrev pub SkipOf : List ℕ → List ℕ → (h p b : ℕ) → Bool → Type 0
+SkipOf plan mask h p b skip = skip ≡ constant plan h p (take h (drop b mask))
+
+-- what each step asks, and what the last one ends
+pub record Run (plan mask : List ℕ) (N t p b x : ℕ) (w : List ℤ) (h u c : ℕ) : Type 0 where
+  pub kind-left : isCut plan (2 * p) ≡ true → T (isSome (kindOf h (take h (drop b mask))))
+  pub kind-right : isCut plan (2 * p + 1) ≡ true → T (isSome (kindOf h (take h (drop (b + h) mask))))
+  pub one : Words w x h × Sums w (x + h) (u * N + b + h) h
+  pub two : (s₁ : Bool) → SkipOf plan mask h (2 * p) b s₁ → (w₁ : List ℤ) → LeftList N b x h u c s₁ w w₁ → Room plan mask N u h (2 * p) b c w₁
+  pub three : (s₁ : Bool) → SkipOf plan mask h (2 * p) b s₁ → (w₁ w₂ : List ℤ) → LeftList N b x h u c s₁ w w₁ → Visited plan mask N u (2 * p) b c w₁ w₂
+      → Words w₂ x h × Words w₂ (u * N + b) h × FiniteBoxSums w₂ x (u * N + b) (x + h) h
+  pub four : (s₁ : Bool) → SkipOf plan mask h (2 * p) b s₁ → (w₁ w₂ : List ℤ) → LeftList N b x h u c s₁ w w₁ → Visited plan mask N u (2 * p) b c w₁ w₂
+      → (s₃ : Bool) → SkipOf plan mask h (2 * p + 1) (b + h) s₃ → (w₃ : List ℤ) → RightList N b x h u c s₃ w₂ w₃ → Room plan mask N u h (2 * p + 1) (b + h) c w₃
+  pub five : (s₁ : Bool) → SkipOf plan mask h (2 * p) b s₁ → (w₁ w₂ : List ℤ) → LeftList N b x h u c s₁ w w₁ → Visited plan mask N u (2 * p) b c w₁ w₂
+      → (s₃ : Bool) → SkipOf plan mask h (2 * p + 1) (b + h) s₃ → (w₃ w₄ : List ℤ) → RightList N b x h u c s₃ w₂ w₃ → Visited plan mask N u (2 * p + 1) (b + h) c w₃ w₄
+      → Words w₄ x h × Words w₄ (u * N + b) h × Sums w₄ (x + h) (u * N + b + h) h × BoxSums w₄ x (u * N + b) (u * N + b + h) h
+  pub done : (s₁ : Bool) → SkipOf plan mask h (2 * p) b s₁ → (w₁ w₂ : List ℤ) → LeftList N b x h u c s₁ w w₁ → Visited plan mask N u (2 * p) b c w₁ w₂
+      → (s₃ : Bool) → SkipOf plan mask h (2 * p + 1) (b + h) s₃ → (w₃ w₄ : List ℤ) → RightList N b x h u c s₃ w₂ w₃ → Visited plan mask N u (2 * p + 1) (b + h) c w₃ w₄
+      → (w₅ : List ℤ) → NodeStored N t b x h u w₄ w₅ → Visited plan mask N t p b x w w₅
+
+-- ---- a constant node's walk does not depend on what it is handed
+rate01-same : (o : Option Kind) (m : ℕ) (L L′ : List Soft) (P : Tree) → isRate01 o ≡ true → putKind o m L P ≡ putKind o m L′ P
+unfolding shortcut
+rate01-same none m L L′ P e = refl
+rate01-same (some rate-0) m L L′ P e = refl
+rate01-same (some rate-1) m L L′ P e = refl
+rate01-same (some REP) m L L′ P e = absurd (subst T (sym e) tt)
+rate01-same (some SPC) m L L′ P e = absurd (subst T (sym e) tt)
+rate01-same (some type-I) m L L′ P e = absurd (subst T (sym e) tt)
+rate01-same (some type-III) m L L′ P e = absurd (subst T (sym e) tt)
+
+pub walk-at-cut : (plan : List ℕ) (t p : ℕ) (mask : List ℕ) (P : Tree) (L : List Soft) → isCut plan p ≡ true → walk plan t p mask P L ≡ putKind (kindOf (2 ^ t) mask) (2 ^ t) L P
+unfolding walk
+walk-at-cut plan zero p mask P L e = refl
+walk-at-cut plan (suc t) p mask P L e = walk-cut plan t p mask P L e
+
+walk-constant : (plan : List ℕ) (t p : ℕ) (mask : List ℕ) (P : Tree) (L L′ : List Soft) → constant plan (2 ^ t) p mask ≡ true → walk plan t p mask P L ≡ walk plan t p mask P L′
+walk-constant plan t p mask P L L′ e =
+    let c : T (constant plan (2 ^ t) p mask) = true-T (constant plan (2 ^ t) p mask) e in
+    let q : isCut plan p ≡ true = T-true (isCut plan p) (and-l (isCut plan p) (isRate01 (kindOf (2 ^ t) mask)) c) in
+    let r : isRate01 (kindOf (2 ^ t) mask) ≡ true = T-true (isRate01 (kindOf (2 ^ t) mask)) (and-r (isCut plan p) (isRate01 (kindOf (2 ^ t) mask)) c) in
+    walk-at-cut plan t p mask P L q ∙ rate01-same (kindOf (2 ^ t) mask) (2 ^ t) L L′ P r ∙ sym (walk-at-cut plan t p mask P L′ q)
+
+pub cut-some : (plan : List ℕ) (t p : ℕ) (mask : List ℕ) → isCut plan p ≡ true → T (wellCut plan t p mask) → T (isSome (kindOf (2 ^ t) mask))
+unfolding wellCut
+cut-some plan zero p mask e w = and-r (isCut plan p) (isSome (kindOf 1 mask)) w
+cut-some plan (suc t) p mask e w = wellCut-cut plan t p mask e w
+
+pub fit-room : {plan mask : List ℕ} {N t s p b x : ℕ} {w : List ℤ} → Room plan mask N t s p b x w → Fit N t b x (length w)
+fit-room r = record { fit = omega (arith, r .size, r .fit); rows = r .rows; within = omega (arith, r .size, r .within) }
+
+module _ (plan mask : List ℕ) (N t s p b x : ℕ) (w : List ℤ) (room : Room plan mask N (suc t) s p b x w) (uncut : isCut plan p ≡ false) where
+  abbrev h : ℕ
+  h = 2 ^ t
+
+  abbrev c : ℕ
+  c = x + (2 ^ t + 2 ^ t)
+
+  abbrev bd : ℕ
+  bd = room .bound
+
+  abbrev L : List Soft
+  L = soft w x (2 ^ suc t)
+
+  abbrev TA : Tree
+  TA = treeAt N w t b
+
+  abbrev TB : Tree
+  TB = treeAt N w t (b + 2 ^ t)
+
+  abbrev A : Tree
+  A = walk plan t (2 * p) (part mask b t) TA (toLeft h L (message TB))
+
+  abbrev B : Tree
+  B = walk plan t (2 * p + 1) (part mask (b + 2 ^ t) t) TB (toRight h L (message A))
+
+  fits : Fit N (suc t) b x (length w)
+  fits = fit-room room
+
+  is-two : 2 ^ suc t ≡ h + h
+  is-two = double t
+
+  S : SmallAll (suc t) bd L
+  S = room .small (ap (λ (b : Bool). b && isRate01 (kindOf (2 ^ suc t) (part mask b₀ (suc t)))) uncut)
+    where
+      b₀ : ℕ
+      b₀ = b
+
+  -- bounds
+  lim : bd + cap t (2 * bd) ≤ limit
+  lim =
+      let e : cap (suc t) bd ≡ bd + cap t (2 * bd) = cap-suc t bd in
+      let m : (2 ^ suc t - 1) * bd ≤ 2 ^ suc t * bd = mul-le-mul-right bd (omega arith) in
+      omega (arith, room .limited, mul-comm (2 ^ suc t) bd)
+
+  lim₂ : 2 * bd ≤ limit
+  lim₂ =
+      let q : 2 ≤ 2 ^ suc t = omega (arith, is-two, pow-pos t) in
+      omega (arith, room .limited, mul-le-mul-left bd q)
+
+  limit′ : 2 * bd * 2 ^ t ≤ limit
+  limit′ = omega (arith, room .limited, ap (λ (z : ℕ). bd * z) is-two, mul-add bd (2 ^ t) (2 ^ t), mul-assoc 2 bd (2 ^ t))
+
+  -- cuts below
+  ww : T (wellCut plan t (2 * p) (take (2 ^ t) (part mask b (suc t))) && wellCut plan t (2 * p + 1) (drop (2 ^ t) (part mask b (suc t))))
+  ww = wellCut-through plan t p (part mask b (suc t)) uncut (room .cuts)
+
+  wl : T (wellCut plan t (2 * p) (part mask b t))
+  wl = subst (λ (q : List ℕ). T (wellCut plan t (2 * p) q)) (part-left mask b t) (and-l (wellCut plan t (2 * p) (take (2 ^ t) (part mask b (suc t)))) (wellCut plan t (2 * p + 1) (drop (2 ^ t) (part mask b (suc t)))) ww)
+
+  wr : T (wellCut plan t (2 * p + 1) (part mask (b + 2 ^ t) t))
+  wr = subst (λ (q : List ℕ). T (wellCut plan t (2 * p + 1) q)) (part-right mask b t) (and-r (wellCut plan t (2 * p) (take (2 ^ t) (part mask b (suc t)))) (wellCut plan t (2 * p + 1) (drop (2 ^ t) (part mask b (suc t)))) ww)
+
+  -- the bounds of the children's messages, before and after
+  HTA : Held plan t (2 * p) (2 * bd) TA
+  unfolding treeAt
+  HTA = room .held .1 uncut .0
+
+  HTB : Held plan t (2 * p + 1) (2 * bd) TB
+  unfolding treeAt
+  HTB = room .held .1 uncut .1
+
+  HA : Held plan t (2 * p) (2 * bd) A
+  HA = held-walk plan t (2 * p) (part mask b t) (2 * bd) TA (toLeft h L (message TB)) wl (small-toLeft t bd L S (message TB)) HTA
+
+  HB : Held plan t (2 * p + 1) (2 * bd) B
+  HB = held-walk plan t (2 * p + 1) (part mask (b + 2 ^ t) t) (2 * bd) TB (toRight h L (message A)) wr (small-toRight t bd L S (message A)) HTB
+
+  UTB : UnderAll t (cap t (2 * bd)) (message TB)
+  UTB = held-message plan t (2 * p + 1) (2 * bd) TB HTB
+
+  UA : UnderAll t (cap t (2 * bd)) (message A)
+  UA = held-message plan t (2 * p) (2 * bd) A HA
+
+  UB : UnderAll t (cap t (2 * bd)) (message B)
+  UB = held-message plan t (2 * p + 1) (2 * bd) B HB
+
+  m₀ : Mid N t b x w w TA TB
+  m₀ = mid-start N t b x w
+
+  module _ (s₁ : Bool) (k₁ : SkipOf plan mask h (2 * p) b s₁) (w₁ : List ℤ) (e₁ : LeftList N b x h t c s₁ w w₁) where
+    m₁ : Mid N t b x w w₁ TA TB
+    m₁ = go s₁ e₁
+      where
+        go : (s : Bool) → LeftList N b x h t c s w w₁ → Mid N t b x w w₁ TA TB
+        go true e = subst (λ (z : List ℤ). Mid N t b x w z TA TB) (sym e) m₀
+        go false e = mid-scratch N t b x w fits w TA TB m₀ w₁ _ e
+
+    in₁ : s₁ ≡ false → soft w₁ c h ≡ toLeft h L (message TB)
+    in₁ q = left-list N t b x w fits w TA TB m₀ bd S lim UTB w₁ (e₁ ∙ ap (λ (s : Bool). cond s w (write w c h (boxPlus w x (x + h) (t * N + b + h)))) q)
+
+    room₁ : Room plan mask N t h (2 * p) b c w₁
+    room₁ = record {
+      size = refl;
+      fit = omega (arith, fits .fit, is-two, m₁ .kept .long);
+      rows = omega (arith, fits .rows, suc-mul t N);
+      within = omega (arith, fits .within, is-two);
+      planned = omega (arith, planned-low);
+      masked = omega (arith, room .masked, room .size, is-two);
+      cuts = wl;
+      bound = 2 * bd;
+      limited = limit′;
+      small = λ q. subst (SmallAll t (2 * bd)) (sym (in₁ (k₁ ∙ q))) (small-toLeft t bd L S (message TB));
+      held = subst (Held plan t (2 * p) (2 * bd)) (sym (m₁ .lefts)) HTA;
+    }
+      where
+        planned-low : (2 * p + 1) * h ≤ length plan
+        planned-low = omega (arith, room .planned, ap (λ (z : ℕ). (p + 1) * z) (room .size ∙ is-two), mul-add (p + 1) h h, add-mul p 1 h, add-mul (2 * p) 1 h, mul-assoc 2 p h)
+
+    -- the left child's walk
+    left-walk : (s : Bool) → s₁ ≡ s → walk plan t (2 * p) (part mask b t) TA (soft w₁ c h) ≡ A
+    left-walk true q = walk-constant plan t (2 * p) (part mask b t) TA (soft w₁ c h) (toLeft h L (message TB)) (sym k₁ ∙ q)
+    left-walk false q = ap (walk plan t (2 * p) (part mask b t) TA) (in₁ q)
+
+    module _ (w₂ : List ℤ) (v₂ : Visited plan mask N t (2 * p) b c w₁ w₂) where
+      m₂ : Mid N t b x w w₂ A TB
+      m₂ = subst (λ (T : Tree). Mid N t b x w w₂ T TB) (left-walk s₁ refl) (mid-left N t b x w fits w₁ TA TB m₁ plan mask (2 * p) w₂ v₂)
+
+      module _ (s₃ : Bool) (k₃ : SkipOf plan mask h (2 * p + 1) (b + h) s₃) (w₃ : List ℤ) (e₃ : RightList N b x h t c s₃ w₂ w₃) where
+        m₃ : Mid N t b x w w₃ A TB
+        m₃ = go s₃ e₃
+          where
+            go : (s : Bool) → RightList N b x h t c s w₂ w₃ → Mid N t b x w w₃ A TB
+            go true e = subst (λ (z : List ℤ). Mid N t b x w z A TB) (sym e) m₂
+            go false e = mid-scratch N t b x w fits w₂ A TB m₂ w₃ _ e
+
+        in₃ : s₃ ≡ false → soft w₃ c h ≡ toRight h L (message A)
+        in₃ q = right-list N t b x w fits w₂ A TB m₂ bd S lim UA lim₂ w₃ (e₃ ∙ ap (λ (s : Bool). cond s w₂ (write w₂ c h (plusBox w₂ x (t * N + b) (x + h)))) q)
+
+        room₃ : Room plan mask N t h (2 * p + 1) (b + h) c w₃
+        room₃ = record {
+          size = refl;
+          fit = omega (arith, fits .fit, is-two, m₃ .kept .long);
+          rows = omega (arith, fits .rows, suc-mul t N);
+          within = omega (arith, fits .within, is-two);
+          planned = omega (arith, planned-high);
+          masked = omega (arith, room .masked, room .size, is-two);
+          cuts = wr;
+          bound = 2 * bd;
+          limited = limit′;
+          small = λ q. subst (SmallAll t (2 * bd)) (sym (in₃ (k₃ ∙ q))) (small-toRight t bd L S (message A));
+          held = subst (Held plan t (2 * p + 1) (2 * bd)) (sym (m₃ .rights)) HTB;
+        }
+          where
+            planned-high : (2 * p + 1 + 1) * h ≤ length plan
+            planned-high = omega (arith, room .planned, ap (λ (z : ℕ). (p + 1) * z) (room .size ∙ is-two), mul-add (p + 1) h h, add-mul p 1 h, add-mul (2 * p) 1 h, add-mul (2 * p + 1) 1 h, mul-assoc 2 p h)
+
+        -- the right child's walk
+        right-walk : (s : Bool) → s₃ ≡ s → walk plan t (2 * p + 1) (part mask (b + 2 ^ t) t) TB (soft w₃ c h) ≡ B
+        right-walk true q = walk-constant plan t (2 * p + 1) (part mask (b + 2 ^ t) t) TB (soft w₃ c h) (toRight h L (message A)) (sym k₃ ∙ q)
+        right-walk false q = ap (walk plan t (2 * p + 1) (part mask (b + 2 ^ t) t) TB) (in₃ q)
+
+        module _ (w₄ : List ℤ) (v₄ : Visited plan mask N t (2 * p + 1) (b + h) c w₃ w₄) where
+          m₄ : Mid N t b x w w₄ A B
+          m₄ = subst (λ (T : Tree). Mid N t b x w w₄ A T) (right-walk s₃ refl) (mid-right N t b x w fits w₃ A TB m₃ plan mask (2 * p + 1) w₄ v₄)
+
+          -- the first half of the message
+          half : List ℤ
+          half = write w₄ (suc t * N + b) h (boxPlus w₄ (t * N + b) (x + h) (t * N + b + h))
+
+          mₕ : Mid N t b x w half A B
+          unfolding half
+          mₕ = mid-row N t b x w fits w₄ A B m₄ half (suc t * N + b) _ refl (omega arith) (omega arith)
+
+          module _ (w₅ : List ℤ) (e₅ : NodeStored N (suc t) b x h t w₄ w₅) where
+            m₅ : Mid N t b x w w₅ A B
+            unfolding half
+            m₅ = mid-row N t b x w fits half A B mₕ w₅ (suc t * N + b + h) _ e₅ (omega arith) (omega arith)
+
+            own : soft w₅ (suc t * N + b) (2 ^ suc t) ≡ toNode h L (message A) (message B)
+            unfolding soft toNode half
+            own = sym (tabulate-halves t (λ k. softOf (word w₅ (suc t * N + b + k))) _ _
+                (λ k lt. sym (ap softOf (source-below (pos 0) half w₅ (suc t * N + b + h) h _ (suc t * N + b + k) e₅ (omega arith))
+                ∙ low-half N t b x w fits w₄ A B m₄ bd S lim UB UA half refl k lt))
+                (λ k lt. sym (ap (λ (i : ℕ). softOf (word w₅ i)) (let q : suc t * N + b + (k + h) ≡ suc t * N + b + h + k = omega arith in q)
+                ∙ high-half N t b x w fits w₄ A B m₄ bd S lim UB UA half w₅ (length-write (pos 0) w₄ (suc t * N + b) h _) e₅ k lt)))
+
+            visited : Visited plan mask N (suc t) p b x w w₅
+            unfolding treeAt
+            visited = record {
+              tree = node-path own (m₅ .lefts) (m₅ .rights)
+                  ∙ sym (walk-through plan t p (part mask b (suc t)) (treeAt N w (suc t) b) L uncut
+                  ∙ ap₂ (λ (q r : List ℕ). descend (walk plan t (2 * p) q) (walk plan t (2 * p + 1) r) (2 ^ t) (treeAt N w (suc t) b) L) (part-left mask b t) (part-right mask b t));
+              kept = m₅ .kept;
+            }
+
+  pub run-at : Run plan mask N (suc t) p b x w (2 ^ t) t (x + (2 ^ t + 2 ^ t))
+  run-at = record {
+    kind-left = λ e. cut-some plan t (2 * p) (part mask b t) e wl;
+    kind-right = λ e. cut-some plan t (2 * p + 1) (part mask (b + 2 ^ t) t) e wr;
+    one = (words-list N t b x w fits w TA TB m₀ bd S lim, left-sums N t b x w fits w TA TB m₀ bd S lim UTB);
+    two = room₁;
+    three = λ s₁ k₁ w₁ w₂ e₁ v₂.
+        let m = m₂ s₁ k₁ w₁ e₁ w₂ v₂ in
+        (words-list N t b x w fits w₂ A TB m bd S lim, words-left N t b x w fits w₂ A TB m bd S lim UA, right-sums N t b x w fits w₂ A TB m bd S lim UA lim₂);
+    four = λ s₁ k₁ w₁ w₂ e₁ v₂ s₃ k₃ w₃ e₃. room₃ s₁ k₁ w₁ e₁ w₂ v₂ s₃ k₃ w₃ e₃;
+    five = λ s₁ k₁ w₁ w₂ e₁ v₂ s₃ k₃ w₃ w₄ e₃ v₄.
+        let m = m₄ s₁ k₁ w₁ e₁ w₂ v₂ s₃ k₃ w₃ e₃ w₄ v₄ in
+        (words-list N t b x w fits w₄ A B m bd S lim, words-left N t b x w fits w₄ A B m bd S lim UA, left-sums N t b x w fits w₄ A B m bd S lim UB, up-sums N t b x w fits w₄ A B m bd S lim UB UA);
+    done = λ s₁ k₁ w₁ w₂ e₁ v₂ s₃ k₃ w₃ w₄ e₃ v₄ w₅ e₅. visited s₁ k₁ w₁ e₁ w₂ v₂ s₃ k₃ w₃ e₃ w₄ v₄ w₅ e₅;
+  }
+
+-- the same in the code's terms
+pub run : (plan mask : List ℕ) (N t s p b x : ℕ) (w : List ℤ) → (t ≡ 0 → ⊥) → Room plan mask N t s p b x w → isCut plan p ≡ false → Run plan mask N t p b x w (s / 2) (t - 1) (x + s)
+run plan mask N zero s p b x w ne room uncut = absurd (ne refl)
+run plan mask N (suc t) s p b x w ne room uncut =
+    let two : s ≡ 2 ^ t + 2 ^ t = room .size ∙ double t in
+    let is-half : 2 ^ t ≡ s / 2 = omega arith in
+    let is-pred : t ≡ suc t - 1 = omega arith in
+    let is-at : x + (2 ^ t + 2 ^ t) ≡ x + s = omega arith in
+    subst₃ (λ (h′ u′ c′ : ℕ). Run plan mask N (suc t) p b x w h′ u′ c′) is-half is-pred is-at (run-at plan mask N t s p b x w room uncut)

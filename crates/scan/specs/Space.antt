@@ -1,0 +1,96 @@
+-- The lent words as a tree of messages, and what a visit and a sweep leave in them. Assumes nothing: these are definitions.
+use mathlib.Core.Path.{_≡_}
+use mathlib.Core.Logic.{_⊎_}
+use mathlib.Core.Bool.{Bool, false, _&&_}
+use mathlib.Core.Option.{Option, none, some}
+use mathlib.Core.List.{List}
+use Prim.Native.Nat.{ℕ, zero, suc, _+_, _*_, _^_, _≤_, _<_}
+use lib.IntN.{ℤ, natAbs}
+use lib.Dec.{T}
+use lib.ListN.{length, take, drop}
+use Rattle.model.specs.Scan.{Tree, leaf, node, sweeps}
+use Rattle.model.specs.Kinds.{Kind, kindOf, shortcut}
+use Rattle.model.specs.Plans.{isCut, isRate01, wellCut, walk, Allowed}
+use Rattle.model.specs.Lists.{tabulate}
+use Rattle.model.specs.Soft.{Soft, finite}
+use Rattle.model.specs.Bounds.{SmallAll, Held, limit}
+use Rattle.words.specs.Words.{word, soft, stored}
+
+-- the tree of the node of stage t whose first position is b: word u * N + i is the message of stage u at position i
+unfoldable pub treeAt : ℕ → List ℤ → ℕ → ℕ → Tree
+treeAt N w zero b = leaf (soft w (0 * N + b) 1)
+treeAt N w (suc t) b = node (soft w (suc t * N + b) (2 ^ suc t)) (treeAt N w t b) (treeAt N w t (b + 2 ^ t))
+
+-- the part of the mask of that node
+abbrev pub part : List ℕ → ℕ → ℕ → List ℕ
+part mask b t = take (2 ^ t) (drop b mask)
+
+-- a cut rate-0 or rate-1 node: its message does not depend on what it is handed
+abbrev pub constant : List ℕ → ℕ → ℕ → List ℕ → Bool
+constant plan m p mask = isCut plan p && isRate01 (kindOf m mask)
+
+-- what a visit of node p at stage t, of s positions from b on, with its incoming list at x, requires.
+-- Messages below a cut are not mentioned.
+pub record Room (plan mask : List ℕ) (N t s p b x : ℕ) (w : List ℤ) : Type 0 where
+  pub size : s ≡ 2 ^ t
+  pub fit : x + (s + s) ≤ length w
+  pub rows : t * N + N ≤ x
+  pub within : b + s ≤ N
+  pub planned : (p + 1) * s ≤ length plan
+  pub masked : b + s ≤ length mask
+  pub cuts : T (wellCut plan t p (part mask b t))
+  -- incoming values that are looked at are at most `bound`, messages at and above the cuts are within the stage's bounds
+  pub bound : ℕ
+  pub limited : bound * 2 ^ t ≤ limit
+  pub small : constant plan (2 ^ t) p (part mask b t) ≡ false → SmallAll t bound (soft w x (2 ^ t))
+  pub held : Held plan t p bound (treeAt N w t b)
+
+-- v is w but for the words of the node of stage t with the positions from b on, and the words that follow its incoming list at x
+pub record Kept (N t b x : ℕ) (w v : List ℤ) : Type 0 where
+  pub long : length v ≡ length w
+  pub rows : (u i : ℕ) → u ≤ t → i < N → (i < b) ⊎ (b + 2 ^ t ≤ i) → word v (u * N + i) ≡ word w (u * N + i)
+  pub between : (j : ℕ) → t * N + N ≤ j → j < x + 2 ^ t → word v j ≡ word w j
+  pub beyond : (j : ℕ) → x + (2 ^ t + 2 ^ t) ≤ j → word v j ≡ word w j
+
+-- v is w after a visit of node p at stage t
+pub record Visited (plan mask : List ℕ) (N t p b x : ℕ) (w v : List ℤ) : Type 0 where
+  pub tree : treeAt N v t b ≡ walk plan t p (part mask b t) (treeAt N w t b) (soft w x (2 ^ t))
+  pub kept : Kept N t b x w v
+
+-- the words after a node of a kind was cut
+abbrev pub cutWords : Option Kind → List ℤ → ℕ → ℕ → ℕ → List ℤ
+cutWords none w m x s = w
+cutWords (some k) w m x s = stored w m s (shortcut k s (soft w x s))
+
+-- ---- sweeps
+-- N words a row and t + 3 rows: those of the stages 0 to t, and two for incoming lists, the root's first.
+-- The root's incoming list holds LLRs; messages at and above the cuts are within bounds; those below a cut are not mentioned.
+pub record Ready (plan mask : List ℕ) (N t : ℕ) (w : List ℤ) : Type 0 where
+  pub size : N ≡ 2 ^ t
+  pub low : t ≤ 10
+  pub room : N * (t + 3) ≤ length w
+  pub positions : length mask ≡ N
+  pub allowed : Allowed t plan mask
+  pub small : SmallAll t 32767 (soft w (N * (t + 1)) (2 ^ t))
+  pub held : Held plan t 1 32767 (treeAt N w t 0)
+
+-- v is w after k sweeps along the plan: the tree of the messages, the root's incoming list, and what lies past the workspace
+pub record Swept (plan mask : List ℕ) (N t k : ℕ) (w v : List ℤ) : Type 0 where
+  pub tree : treeAt N v t 0 ≡ sweeps (λ T. walk plan t 1 mask T (soft w (N * (t + 1)) N)) k (treeAt N w t 0)
+  pub list : (i : ℕ) → i < N → word v (N * (t + 1) + i) ≡ word w (N * (t + 1) + i)
+  pub past : (j : ℕ) → N * (t + 3) ≤ j → word v j ≡ word w j
+  pub long : length v ≡ length w
+
+-- ---- a decode
+abbrev pub llrSoft : List ℤ → List Soft
+llrSoft l = tabulate (length l) (λ k. finite (word l k))
+
+pub record Decodable (plan mask : List ℕ) (llrs : List ℤ) (N t out words : ℕ) : Type 0 where
+  pub size : N ≡ 2 ^ t
+  pub low : t ≤ 10
+  pub positions : length mask ≡ N
+  pub values : length llrs ≡ N
+  pub small : (k : ℕ) → k < N → natAbs (word llrs k) ≤ 32767
+  pub allowed : Allowed t plan mask
+  pub answer : N ≤ out
+  pub room : N * (t + 3) ≤ words

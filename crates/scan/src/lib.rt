@@ -1,0 +1,179 @@
+// The planned walk over one lent workspace.
+use kinds::Kind;
+use kinds::cut_kind;
+use words::box_plus;
+use words::copy_words;
+use words::fill;
+use words::leaf_words;
+use words::load_llrs;
+use words::node_message;
+use words::plus_box;
+use words::rate_one_message;
+use words::rate_zero_message;
+use words::rep_message;
+use words::spc_message;
+use words::type_one_message;
+use words::type_three_message;
+ghost use mathlib.Core.Path.{_≡_};
+ghost use Prim.Native.Nat.{ℕ, _+_, _*_, _≤_, _<_, _^_};
+ghost use lib.ListN.{length, getD, take, drop};
+ghost use lib.IntN.{pos};
+ghost use Rattle.model.specs.Scan.{scan};
+ghost use Rattle.words.specs.Words.{Incoming, stored, write, boxPlus, plusBox, Words, Sums, FiniteBoxSums};
+ghost use Rattle.model.specs.Kinds.{kindOf, isSome};
+ghost use Rattle.model.specs.Plans.{isCut, isRate01};
+ghost use lib.Dec.{T};
+ghost use mathlib.Core.Bool.{true, false, cond};
+ghost use Rattle.kinds.specs.Runs.{kindNamed};
+ghost use Rattle.scan.specs.Space.{constant, Room, Visited, cutWords, Ready, Swept, llrSoft, Decodable};
+
+// The message of a cut node, by its kind. A rate-0 or rate-1 node does not look at what it is handed.
+fn cut_message(w: &mut [i32], k: Kind, m: usize, x: usize, s: usize)
+    requires { ⌜ (m + s ≤ x) × (x + s ≤ length (now w)) ⌝ }
+    requires { ⌜ (isRate01 (kindNamed k) ≡ false → Incoming (now w) x s) ⌝ }
+    ensures { λ _. ⌜ now (w .exit) ≡ cutWords (kindNamed k) (now (w .entry)) m x s ⌝ }
+{
+    match k {
+        Kind::Rate0 => rate_zero_message(w, m, x, s),
+        Kind::Rate1 => rate_one_message(w, m, x, s),
+        Kind::Rep => rep_message(w, m, x, s),
+        Kind::Spc => spc_message(w, m, x, s),
+        Kind::TypeI => type_one_message(w, m, x, s),
+        Kind::TypeIII => type_three_message(w, m, x, s),
+        Kind::NoKind => {}
+    }
+}
+
+fn is_rate_01(k: Kind) -> bool
+    ensures { λ r. ⌜ r ≡ isRate01 (kindNamed k) ⌝ }
+{
+    match k {
+        Kind::Rate0 => true,
+        Kind::Rate1 => true,
+        Kind::Rep => false,
+        Kind::Spc => false,
+        Kind::TypeI => false,
+        Kind::TypeIII => false,
+        Kind::NoKind => false,
+    }
+}
+
+// Whether node p, of s positions from b on, is a cut rate-0 or rate-1 node, whose message does not depend on what it is handed.
+fn is_constant(plan: &[u8], mask: &[u8], p: usize, b: usize, s: usize) -> bool
+    requires { ⌜ (p < length (now plan)) × (b + s ≤ length (now mask)) ⌝ }
+    requires { ⌜ (isCut (now plan) p ≡ true → T (isSome (kindOf s (take s (drop b (now mask)))))) ⌝ }
+    ensures { λ r. ⌜ r ≡ constant (now (plan .entry)) s p (take s (drop b (now (mask .entry)))) ⌝ }
+{
+    if plan[p] == 1 {
+        let e = b + s;
+        is_rate_01(cut_kind(&mask[b..e]))
+    } else {
+        false
+    }
+}
+
+// The incoming list of the left child, at c: the node's is at x, the right child's message at r. Not stored where the child is constant.
+fn left_list(w: &mut [i32], skip: bool, c: usize, x: usize, r: usize, h: usize)
+    requires { ⌜ (r + h ≤ x) × (x + (h + h) ≤ c) × (c + h ≤ length (now w)) ⌝ }
+    requires { ⌜ Words (now w) x h × Sums (now w) (x + h) r h ⌝ }
+    ensures { λ _. ⌜ now (w .exit) ≡ cond skip (now (w .entry)) (write (now (w .entry)) c h (boxPlus (now (w .entry)) x (x + h) r)) ⌝ }
+{
+    if !skip {
+        let y = x + h;
+        box_plus(w, c, x, y, r, h);
+    }
+}
+
+// The incoming list of the right child, at c: the node's is at x, the left child's message at l. Not stored where the child is constant.
+fn right_list(w: &mut [i32], skip: bool, c: usize, x: usize, l: usize, h: usize)
+    requires { ⌜ (l + h ≤ x) × (x + (h + h) ≤ c) × (c + h ≤ length (now w)) ⌝ }
+    requires { ⌜ Words (now w) x h × Words (now w) l h × FiniteBoxSums (now w) x l (x + h) h ⌝ }
+    ensures { λ _. ⌜ now (w .exit) ≡ cond skip (now (w .entry)) (write (now (w .entry)) c h (plusBox (now (w .entry)) x l (x + h))) ⌝ }
+{
+    if !skip {
+        let y = x + h;
+        plus_box(w, c, x, l, y, h);
+    }
+}
+
+// Visits node p of stage t, of s positions from b on, whose incoming list is at x.
+fn visit(
+    work: &mut [i32],
+    plan: &[u8],
+    mask: &[u8],
+    n: usize,
+    t: usize,
+    s: usize,
+    p: usize,
+    b: usize,
+    x: usize,
+)
+    requires { ⌜ Room (now plan) (now mask) n t s p b x (now work) ⌝ }
+    ensures { λ _. ⌜ Visited (now (plan .entry)) (now (mask .entry)) n t p b x (now (work .entry)) (now (work .exit)) ⌝ }
+{
+    let m = t * n + b;
+    if plan[p] == 1 {
+        let e = b + s;
+        let k = cut_kind(&mask[b..e]);
+        cut_message(work, k, m, x, s);
+        return;
+    }
+    let h = s / 2;
+    let u = t - 1;
+    let l = u * n + b;
+    let r = l + h;
+    let c = x + s;
+    let q = 2 * p;
+    let d = b + h;
+    let skip_left = is_constant(plan, mask, q, b, h);
+    left_list(work, skip_left, c, x, r, h);
+    visit(work, plan, mask, n, u, h, q, b, c);
+    let skip_right = is_constant(plan, mask, q + 1, d, h);
+    right_list(work, skip_right, c, x, l, h);
+    visit(work, plan, mask, n, u, h, q + 1, d, c);
+    node_message(work, m, x, l, h);
+}
+
+// One sweep along the plan: a visit of the root with the incoming list that stands past the rows of messages.
+pub fn sweep(work: &mut [i32], plan: &[u8], mask: &[u8], n: usize, t: usize)
+    requires { ⌜ Ready (now plan) (now mask) n t (now work) ⌝ }
+    ensures { λ _. ⌜ Swept (now (plan .entry)) (now (mask .entry)) n t 1 (now (work .entry)) (now (work .exit)) ⌝ }
+{
+    let x = n * (t + 1);
+    visit(work, plan, mask, n, t, n, 1, 0, x);
+}
+
+// As many sweeps as `count` says, with the same plan.
+pub fn sweeps(work: &mut [i32], plan: &[u8], mask: &[u8], n: usize, t: usize, count: usize)
+    requires { ⌜ Ready (now plan) (now mask) n t (now work) ⌝ }
+    ensures { λ _. ⌜ Swept (now (plan .entry)) (now (mask .entry)) n t count (now (work .entry)) (now (work .exit)) ⌝ }
+{
+    let mut k = 0;
+    while k < count {
+        sweep(work, plan, mask, n, t);
+        k += 1;
+    }
+}
+
+// The soft values of SCAN after `count` sweeps, by a plan that is allowed for the mask. The workspace is zero afterwards.
+pub fn decode_core(
+    mask: &[u8],
+    plan: &[u8],
+    llrs: &[i16],
+    count: usize,
+    n: usize,
+    t: usize,
+    out: &mut [i32],
+    work: &mut [i32],
+)
+    requires { ⌜ Decodable (now plan) (now mask) (now llrs) n t (length (now out)) (length (now work)) ⌝ }
+    ensures { λ _. ⌜ now (out .exit) ≡ stored (now (out .entry)) 0 n (scan t (now (mask .entry)) (llrSoft (now (llrs .entry))) count) ⌝ }
+    ensures { λ _. ⌜ now (work .exit) ≡ write (now (work .entry)) 0 (n * (t + 3)) (λ k. pos 0) ⌝ }
+{
+    leaf_words(work, 0, mask);
+    fill(work, n, t * n, 0);
+    load_llrs(work, n * (t + 1), llrs);
+    sweeps(work, plan, mask, n, t, count);
+    copy_words(&work[..], t * n, out, 0, n);
+    fill(work, 0, n * (t + 3), 0);
+}
