@@ -132,11 +132,11 @@ walk-stays plan (suc t) p mask P L = go (isCut plan p) refl (walk-stays plan t (
               (sl (left P) (toLeft (2 ^ t) L (message (right P))), sr (right P) (toRight (2 ^ t) L (message l))),
         )
 
-stays-same : (plan : List ℕ) (t p : ℕ) (P : Tree) → Stays plan t p P P
+pub stays-same : (plan : List ℕ) (t p : ℕ) (P : Tree) → Stays plan t p P P
 stays-same plan zero p P = tt
 stays-same plan (suc t) p P = (λ _. (refl, refl), λ _. (stays-same plan t (2 * p) (left P), stays-same plan t (2 * p + 1) (right P)))
 
-stays-then : (plan : List ℕ) (t p : ℕ) (P Q R : Tree) → Stays plan t p P Q → Stays plan t p Q R → Stays plan t p P R
+pub stays-then : (plan : List ℕ) (t p : ℕ) (P Q R : Tree) → Stays plan t p P Q → Stays plan t p Q R → Stays plan t p P R
 stays-then plan zero p P Q R a b = tt
 stays-then plan (suc t) p P Q R a b = (
   λ e. (b .0 e .0 ∙ a .0 e .0, b .0 e .1 ∙ a .0 e .1),

@@ -2,28 +2,29 @@
 use mathlib.Core.Path.{_≡_, refl, sym, ap, ap₂, _∙_, subst}
 use lib.IntN.{ℤ, pos, natAbs}
 use mathlib.Core.Bool.{Bool, true, false, cond}
-use mathlib.Core.List.{List, [], _∷_}
+use mathlib.Core.List.{List, [], _∷_, map}
 use Prim.Native.Nat.{ℕ, zero, suc, _+_, _*_, _^_, _≤_, _<_}
 use native.Mathlib.Nat.{mul-add, mul-comm, one-mul, mul-le-mul-right, suc-mul}
 use native.Mathlib.Numerals.{add-one}
 use native.Mathlib.Omega.{arith}
 use lib.Pow.{pow-pos, pow-mono}
 use lib.Dec.{T, eqb}
-use lib.ListN.{length, getD, drop}
+use lib.ListN.{length, getD, drop, List·getD-map}
 use lib.Seq.{take-all, getD-take, getD-drop}
 use Rattle.model.specs.Lists.{tabulate}
 use Rattle.model.specs.Soft.{Soft, finite, certain, softZero, _at_, mark, wordOf}
 use Rattle.model.specs.Scan.{Tree, leaf, message, leafValue, start, sweeps, scan}
-use Rattle.model.specs.Plans.{wellCut, walk, planned}
+use Rattle.model.specs.Plans.{Stays, wellCut, walk, planned}
 use Rattle.model.specs.Bounds.{Small, SmallAll, Held}
 use Rattle.model.proofs.Lists.{double, tabulate-ext, getD-tabulate}
 use Rattle.model.proofs.Paths.{allowed-length, allowed-cuts}
 use Rattle.model.proofs.Theorems.{soft-same}
-use Rattle.model.proofs.Bounds.{held-walk, within-held, within-start}
+use Rattle.model.proofs.PlannedWalk.{walk-stays, stays-same, stays-then}
+use Rattle.model.proofs.Bounds.{held-sweeps, within-held, within-start}
 use Rattle.words.specs.Words.{word, softOf, soft, write, stored}
 use Rattle.words.proofs.Laws.{soft-at, word-soft, soft-fin}
 use Rattle.words.proofs.Store.{length-write, write-is, write-ext, source-below, source-above}
-use Rattle.scan.specs.Space.{treeAt, part, Room, Kept, Visited, Ready, Swept, llrSoft, Decodable}
+use Rattle.scan.specs.Space.{treeAt, part, Room, Kept, Visited, Ready, Swept, Decodable}
 use Rattle.scan.proofs.Keep.{node-path, part-left, part-right, row-below, tree-message, soft-cong, stored-at}
 
 -- the whole mask
@@ -63,12 +64,16 @@ module _ {plan mask : List ℕ} {N t : ℕ} {w : List ℤ} (r : Ready plan mask 
     held = r .held;
   }
 
+  tree-is : (v : List ℤ) → Visited plan mask N t 1 0 (N * (t + 1)) w v → treeAt N v t 0 ≡ walk plan t 1 mask (treeAt N w t 0) (soft w (N * (t + 1)) N)
+  tree-is v done = done .tree ∙ ap₂ (λ (m : List ℕ) (n : ℕ). walk plan t 1 m (treeAt N w t 0) (soft w (N * (t + 1)) n)) the-mask (sym (r .size))
+
   pub swept-one : (v : List ℤ) → Visited plan mask N t 1 0 (N * (t + 1)) w v → Swept plan mask N t 1 w v
   unfolding sweeps
   swept-one v done =
       let k : Kept N t 0 (N * (t + 1)) w v = done .kept in
       record {
-        tree = done .tree ∙ ap₂ (λ (m : List ℕ) (n : ℕ). walk plan t 1 m (treeAt N w t 0) (soft w (N * (t + 1)) n)) the-mask (sym (r .size));
+        tree = tree-is v done;
+        below = subst (Stays plan t 1 (treeAt N w t 0)) (sym (tree-is v done)) (walk-stays plan t 1 mask (treeAt N w t 0) (soft w (N * (t + 1)) N));
         list = λ i lt. k .between (N * (t + 1) + i) (omega (arith, at-root)) (omega (arith, r .size));
         past = λ j le. k .beyond j (omega (arith, at-root, all-rows, r .size));
         long = k .long;
@@ -76,7 +81,7 @@ module _ {plan mask : List ℕ} {N t : ℕ} {w : List ℤ} (r : Ready plan mask 
 
 pub swept-none : (plan mask : List ℕ) (N t : ℕ) (w : List ℤ) → Swept plan mask N t 0 w w
 unfolding sweeps
-swept-none plan mask N t w = record { tree = refl; list = λ i lt. refl; past = λ j le. refl; long = refl }
+swept-none plan mask N t w = record { tree = refl; below = stays-same plan t 1 (treeAt N w t 0); list = λ i lt. refl; past = λ j le. refl; long = refl }
 
 -- one sweep more
 sweeps-more : (f : Tree → Tree) (k : ℕ) (P : Tree) → sweeps f (suc k) P ≡ f (sweeps f k P)
@@ -97,16 +102,11 @@ swept-more {plan} {mask} {N} {t} {k} {w} {v} {z} p q =
           ∙ ap₂ F same (p .tree)
           ∙ sym (sweeps-more (F (soft w (N * (t + 1)) N)) k (treeAt N w t 0))
           ∙ ap (λ (n : ℕ). sweeps (F (soft w (N * (t + 1)) N)) n (treeAt N w t 0)) (sym (add-one k));
+      below = stays-then plan t 1 (treeAt N w t 0) (treeAt N v t 0) (treeAt N z t 0) (p .below) (q .below);
       list = λ i lt. q .list i lt ∙ p .list i lt;
       past = λ j le. q .past j le ∙ p .past j le;
       long = q .long ∙ p .long;
     }
-
--- bounds stay
-held-sweeps : (plan mask : List ℕ) (t B : ℕ) (L : List Soft) → T (wellCut plan t 1 mask) → SmallAll t B L → (k : ℕ) (P : Tree) → Held plan t 1 B P → Held plan t 1 B (sweeps (λ X. walk plan t 1 mask X L) k P)
-unfolding sweeps
-held-sweeps plan mask t B L w S zero P H = H
-held-sweeps plan mask t B L w S (suc k) P H = held-sweeps plan mask t B L w S k (walk plan t 1 mask P L) (held-walk plan t 1 mask B P L w S H)
 
 pub ready-after : {plan mask : List ℕ} {N t k : ℕ} {w v : List ℤ} → Ready plan mask N t w → Swept plan mask N t k w v → Ready plan mask N t v
 ready-after {plan} {mask} {N} {t} {k} {w} {v} r s =
@@ -118,7 +118,7 @@ ready-after {plan} {mask} {N} {t} {k} {w} {v} r s =
       positions = r .positions;
       allowed = r .allowed;
       small = subst (SmallAll t 32767) (sym (soft-cong w v (N * (t + 1)) (2 ^ t) (λ i lt. s .list i (omega (arith, r .size))))) (r .small);
-      held = subst (Held plan t 1 32767) (sym (s .tree)) (held-sweeps plan mask t 32767 (soft w (N * (t + 1)) N) (allowed-cuts t plan mask (r .allowed)) (subst (SmallAll t 32767) (sym e) (r .small)) k (treeAt N w t 0) (r .held));
+      held = subst (Held plan t 1 32767) (sym (s .tree)) (held-sweeps plan t mask 32767 (soft w (N * (t + 1)) N) (allowed-cuts t plan mask (r .allowed)) (subst (SmallAll t 32767) (sym e) (r .small)) k (treeAt N w t 0) (r .held));
     }
 
 -- ---- the words before the first sweep
@@ -146,6 +146,12 @@ start-tree N T mask w leaves rows (suc t) b le fit =
     (tabulate-ext (2 ^ suc t) _ (λ k. softZero) (λ k lt. ap softOf (ap (word w) (let e : suc t * N + b + k ≡ suc t * N + (b + k) = omega arith in e) ∙ rows t (b + k) (omega arith) (omega arith))))
     (start-tree N T mask w leaves rows t b (omega arith) (omega arith) ∙ ap (start t) (sym (part-left mask b t)))
     (start-tree N T mask w leaves rows t (b + 2 ^ t) (omega arith) (omega arith) ∙ ap (start t) (sym (part-right mask b t)))
+
+-- a list made of another's places
+tabulate-map : {A B : Type 0} (f : A → B) (l : List A) (d : A) → tabulate (length l) (λ k. f (getD l k d)) ≡ map f l
+unfolding tabulate
+tabulate-map f [] d = refl
+tabulate-map f (x ∷ l) d = ap (λ xs. f x ∷ xs) (tabulate-map f l d)
 
 -- ---- the steps of a decode
 module _ (plan mask : List ℕ) (llrs : List ℤ) (N t : ℕ) (out w w₁ w₂ w₃ : List ℤ) (can : Decodable plan mask llrs N t (length out) (length w))
@@ -189,16 +195,17 @@ module _ (plan mask : List ℕ) (llrs : List ℤ) (N t : ℕ) (out w w₁ w₂ w
       start-tree N t mask w₃ first-row other-rows t 0 (omega arith) (omega (arith, can .size))
       ∙ ap (start t) (whole mask t (omega (arith, can .positions, can .size)))
 
-  loaded : soft w₃ (N * (t + 1)) N ≡ llrSoft llrs
+  loaded : soft w₃ (N * (t + 1)) N ≡ map finite llrs
   unfolding soft
   loaded =
       ap (λ (n : ℕ). tabulate n (λ k. softOf (word w₃ (N * (t + 1) + k)))) (sym (can .values))
       ∙ tabulate-ext (length llrs) _ (λ k. finite (word llrs k)) (λ k lt.
       ap softOf (stored-at w₂ w₃ (N * (t + 1)) (length llrs) (word llrs) k e₃ lt (omega (arith, can .values, can .room, root, rows, long₂)))
       ∙ soft-fin (word llrs k) (λ e. let f : natAbs (word llrs k) ≡ mark = ap natAbs e in omega (arith, can .small k (omega (arith, can .values)))))
+      ∙ tabulate-map finite llrs (pos 0)
 
-  small-list : SmallAll t 32767 (llrSoft llrs)
-  small-list k lt = subst (Small 32767) (sym (getD-tabulate (length llrs) (λ k. finite (word llrs k)) k softZero (omega (arith, can .values, can .size)))) (can .small k (omega (arith, can .size)))
+  small-list : SmallAll t 32767 (map finite llrs)
+  small-list k lt = subst (Small 32767) (sym (List·getD-map finite llrs k (pos 0))) (can .small k (omega (arith, can .size)))
 
   pub ready : Ready plan mask N t w₃
   ready = record {
@@ -212,16 +219,16 @@ module _ (plan mask : List ℕ) (llrs : List ℤ) (N t : ℕ) (out w w₁ w₂ w
   }
 
   module _ (count : ℕ) (w₄ : List ℤ) (s : Swept plan mask N t count w₃ w₄) where
-    answer-is : soft w₄ (t * N + 0) (2 ^ t) ≡ scan t mask (llrSoft llrs) count
+    answer-is : soft w₄ (t * N + 0) (2 ^ t) ≡ scan t mask (map finite llrs) count
     unfolding planned
     answer-is =
         sym (tree-message N t 0 w₄)
         ∙ ap message (s .tree ∙ ap₂ (λ (L : List Soft) (P : Tree). sweeps (λ X. walk plan t 1 mask X L) count P) loaded started)
-        ∙ soft-same t plan mask (can .allowed) (llrSoft llrs) count
+        ∙ soft-same t plan mask (can .allowed) (map finite llrs) count
 
-    -- THE ANSWER: the soft values are those of SCAN walked to the leaves
-    pub answered : (o : List ℤ) → o ≡ write out 0 N (λ k. word w₄ (t * N + k)) → o ≡ stored out 0 N (scan t mask (llrSoft llrs) count)
-    answered o e = e ∙ write-ext (pos 0) out 0 N (λ k. word w₄ (t * N + k)) (λ k. wordOf (scan t mask (llrSoft llrs) count at k)) (λ k lt.
+    -- the soft values are those of SCAN walked to the leaves
+    pub answered : (o : List ℤ) → o ≡ write out 0 N (λ k. word w₄ (t * N + k)) → o ≡ stored out 0 N (scan t mask (map finite llrs) count)
+    answered o e = e ∙ write-ext (pos 0) out 0 N (λ k. word w₄ (t * N + k)) (λ k. wordOf (scan t mask (map finite llrs) count at k)) (λ k lt.
         sym (word-soft (word w₄ (t * N + k)))
         ∙ ap wordOf (ap (λ (i : ℕ). softOf (word w₄ i)) (let q : t * N + k ≡ t * N + 0 + k = omega arith in q) ∙ sym (soft-at w₄ (t * N + 0) (2 ^ t) k (omega (arith, can .size))) ∙ ap (λ (l : List Soft). l at k) answer-is))
 

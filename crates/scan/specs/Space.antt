@@ -10,7 +10,7 @@ use lib.Dec.{T}
 use lib.ListN.{length, take, drop}
 use Rattle.model.specs.Scan.{Tree, leaf, node, sweeps}
 use Rattle.model.specs.Kinds.{Kind, kindOf, shortcut}
-use Rattle.model.specs.Plans.{isCut, isRate01, wellCut, walk, Allowed}
+use Rattle.model.specs.Plans.{isCut, isRate01, wellCut, walk, Stays, Allowed}
 use Rattle.model.specs.Lists.{tabulate}
 use Rattle.model.specs.Soft.{Soft, finite}
 use Rattle.model.specs.Bounds.{SmallAll, Held, limit}
@@ -74,17 +74,16 @@ pub record Ready (plan mask : List ℕ) (N t : ℕ) (w : List ℤ) : Type 0 wher
   pub small : SmallAll t 32767 (soft w (N * (t + 1)) (2 ^ t))
   pub held : Held plan t 1 32767 (treeAt N w t 0)
 
--- v is w after k sweeps along the plan: the tree of the messages, the root's incoming list, and what lies past the workspace
+-- v is w after k sweeps along the plan: the messages of the nodes at and above the cuts are the walk's; stored messages of nodes below a cut
+-- are as they were, whatever they held; the root's incoming list and what lies past the workspace are too
 pub record Swept (plan mask : List ℕ) (N t k : ℕ) (w v : List ℤ) : Type 0 where
   pub tree : treeAt N v t 0 ≡ sweeps (λ T. walk plan t 1 mask T (soft w (N * (t + 1)) N)) k (treeAt N w t 0)
+  pub below : Stays plan t 1 (treeAt N w t 0) (treeAt N v t 0)
   pub list : (i : ℕ) → i < N → word v (N * (t + 1) + i) ≡ word w (N * (t + 1) + i)
   pub past : (j : ℕ) → N * (t + 3) ≤ j → word v j ≡ word w j
   pub long : length v ≡ length w
 
--- ---- a decode
-abbrev pub llrSoft : List ℤ → List Soft
-llrSoft l = tabulate (length l) (λ k. finite (word l k))
-
+-- ---- a decode's soft values: what the accepted inputs are
 pub record Decodable (plan mask : List ℕ) (llrs : List ℤ) (N t out words : ℕ) : Type 0 where
   pub size : N ≡ 2 ^ t
   pub low : t ≤ 10

@@ -18,6 +18,8 @@ ghost use mathlib.Core.Path.{_≡_};
 ghost use Prim.Native.Nat.{ℕ, _+_, _*_, _≤_, _<_, _^_};
 ghost use lib.ListN.{length, getD, take, drop};
 ghost use lib.IntN.{pos};
+ghost use mathlib.Core.List.{map};
+ghost use Rattle.model.specs.Soft.{finite};
 ghost use Rattle.model.specs.Scan.{scan};
 ghost use Rattle.words.specs.Words.{Incoming, stored, write, boxPlus, plusBox, Words, Sums, FiniteBoxSums};
 ghost use Rattle.model.specs.Kinds.{kindOf, isSome};
@@ -25,7 +27,7 @@ ghost use Rattle.model.specs.Plans.{isCut, isRate01};
 ghost use lib.Dec.{T};
 ghost use mathlib.Core.Bool.{true, false, cond};
 ghost use Rattle.kinds.specs.Runs.{kindNamed};
-ghost use Rattle.scan.specs.Space.{constant, Room, Visited, cutWords, Ready, Swept, llrSoft, Decodable};
+ghost use Rattle.scan.specs.Space.{constant, Room, Visited, cutWords, Ready, Swept, Decodable};
 
 // The message of a cut node, by its kind. A rate-0 or rate-1 node does not look at what it is handed.
 fn cut_message(w: &mut [i32], k: Kind, m: usize, x: usize, s: usize)
@@ -156,7 +158,7 @@ pub fn sweeps(work: &mut [i32], plan: &[u8], mask: &[u8], n: usize, t: usize, co
 }
 
 // The soft values of SCAN after `count` sweeps, by a plan that is allowed for the mask. The workspace is zero afterwards.
-pub fn decode_core(
+pub fn soft_values(
     mask: &[u8],
     plan: &[u8],
     llrs: &[i16],
@@ -167,7 +169,7 @@ pub fn decode_core(
     work: &mut [i32],
 )
     requires { ⌜ Decodable (now plan) (now mask) (now llrs) n t (length (now out)) (length (now work)) ⌝ }
-    ensures { λ _. ⌜ now (out .exit) ≡ stored (now (out .entry)) 0 n (scan t (now (mask .entry)) (llrSoft (now (llrs .entry))) count) ⌝ }
+    ensures { λ _. ⌜ now (out .exit) ≡ stored (now (out .entry)) 0 n (scan t (now (mask .entry)) (map finite (now (llrs .entry))) count) ⌝ }
     ensures { λ _. ⌜ now (work .exit) ≡ write (now (work .entry)) 0 (n * (t + 3)) (λ k. pos 0) ⌝ }
 {
     leaf_words(work, 0, mask);

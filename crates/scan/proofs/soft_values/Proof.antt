@@ -1,8 +1,8 @@
 use mathlib.Core.Path.{_∙_}
 use native.Mathlib.Omega.{arith}
 use Rattle.scan.proofs.Rounds.{sizes-of, ready, answered, cleared}
-use Rattle.scan.proofs.decode_core.Statement.{statement}
-use Rattle.scan.proofs.decode_core.Tie as tie
+use Rattle.scan.proofs.soft_values.Statement.{statement}
+use Rattle.scan.proofs.soft_values.Tie as tie
 
 leaf-words-requires : tie.Need-leaf-words-requires
 leaf-words-requires c κs =
@@ -130,8 +130,8 @@ returns c =
       cleared (a .plan .now) (a .mask .now) (a .llrs .now) (a .n) (a .t) (a .out .now) (a .work .now) (c .before .before .before .before .before .before .before .before .before .before .before .before .before .before .before .before .before .leaf-words .last .0) (c .before .before .before .before .before .before .before .before .before .before .before .before .before .before .fill .last .0) (c .before .before .before .before .before .before .before .before .before .before .before .load-llrs .last .0) can (c .before .before .before .before .before .before .before .before .before .before .before .before .before .before .before .before .before .leaf-words .ensures) (c .before .before .before .before .before .before .before .before .before .before .before .before .before .before .fill .ensures) (c .before .before .before .before .before .before .before .before .before .before .before .load-llrs .ensures) (a .count) (c .before .before .before .before .before .before .before .before .sweeps .last .0) (c .before .before .before .before .before .before .before .before .sweeps .ensures) (c .before .fill2 .last .0) (c .before .fill2 .ensures),
     )
 
-pub decode-core-spec : {M : Type 1} → statement M
-decode-core-spec =
+pub soft-values-spec : {M : Type 1} → statement M
+soft-values-spec =
     tie.close
     (tie.spec
     leaf-words-requires
