@@ -12,34 +12,34 @@ ghost use Rattle.model.specs.Soft.{mark, wordOf};
 ghost use Rattle.words.specs.Sums.{strided, sumZ, sizes, least, next, parity, isOdd, leaveOut};
 
 // The size of a word.
-pub fn abs_word(a: i32) -> i32
+fn abs_word(a: i32) -> i32
     requires { ⌜ Word a ⌝ }
     ensures { λ r. ⌜ r ≡ pos (natAbs a) ⌝ }
 {
     if a < 0 { -a } else { a }
 }
 
-pub fn min_word(a: i32, b: i32) -> i32
+fn min_word(a: i32, b: i32) -> i32
     ensures { λ r. ⌜ r ≡ cond (ltZ a b) a b ⌝ }
 {
     if a < b { a } else { b }
 }
 
-pub fn max_word(a: i32, b: i32) -> i32
+fn max_word(a: i32, b: i32) -> i32
     ensures { λ r. ⌜ r ≡ cond (ltZ a b) b a ⌝ }
 {
     if a < b { b } else { a }
 }
 
 // -m if neg, else m
-pub fn with_sign(neg: bool, m: i32) -> i32
+fn with_sign(neg: bool, m: i32) -> i32
     requires { ⌜ Word m ⌝ }
     ensures { λ r. ⌜ r ≡ cond neg (negℤ m) m ⌝ }
 {
     if neg { -m } else { m }
 }
 
-pub fn box_words(a: i32, b: i32) -> i32
+fn box_words(a: i32, b: i32) -> i32
     requires { ⌜ Word a ⌝ }
     requires { ⌜ Word b ⌝ }
     ensures { λ r. ⌜ r ≡ boxWord a b ⌝ }
@@ -57,7 +57,7 @@ pub fn add_words(a: i32, b: i32) -> i32
 }
 
 // The sum of two finite words.
-pub fn add_finite(a: i32, b: i32) -> i32
+fn add_finite(a: i32, b: i32) -> i32
     requires { ⌜ Finite a b ⌝ }
     ensures { λ r. ⌜ r ≡ addWord a b ⌝ }
 {
