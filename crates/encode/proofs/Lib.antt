@@ -1,0 +1,6 @@
+pub mod Filled
+pub mod Blocks
+pub mod StrideLoop
+pub mod Placing
+pub mod Calls
+pub mod RoundTrip
