@@ -60,13 +60,13 @@ fn is_rate_01(k: Kind) -> bool
     }
 }
 
-// Whether node p, of s positions from b on, is a cut rate-0 or rate-1 node, whose message does not depend on what it is handed.
-fn is_constant(plan: &[u8], mask: &[u8], p: usize, b: usize, s: usize) -> bool
-    requires { ⌜ (p < length (now plan)) × (b + s ≤ length (now mask)) ⌝ }
-    requires { ⌜ (isCut (now plan) p ≡ true → T (isSome (kindOf s (take s (drop b (now mask)))))) ⌝ }
-    ensures { λ r. ⌜ r ≡ constant (now (plan .entry)) s p (take s (drop b (now (mask .entry)))) ⌝ }
+// Whether node q, of s positions from b on, is a cut rate-0 or rate-1 node, whose message does not depend on what it is handed.
+fn is_constant(plan: &[u8], mask: &[u8], q: usize, b: usize, s: usize) -> bool
+    requires { ⌜ (q < length (now plan)) × (b + s ≤ length (now mask)) ⌝ }
+    requires { ⌜ (isCut (now plan) q ≡ true → T (isSome (kindOf s (take s (drop b (now mask)))))) ⌝ }
+    ensures { λ r. ⌜ r ≡ constant (now (plan .entry)) s q (take s (drop b (now (mask .entry)))) ⌝ }
 {
-    if plan[p] == 1 {
+    if plan[q] == 1 {
         let e = b + s;
         is_rate_01(cut_kind(&mask[b..e]))
     } else {

@@ -31,7 +31,7 @@ cut-kind-requires : tie.Need-cut-kind-requires
 cut-kind-requires c κs =
     let start = c .before .before .before .before .before in
     let a = start .args in
-    subst (λ (o : Option Kind). T (isSome o)) (sym (kind-part (a .mask .now) (a .b) (a .s) (start .pre .0 .1))) (start .pre .1 (eq-eqb (getD (a .plan .now) (a .p) 0) 1 (c .before .if1 .taken)))
+    subst (λ (o : Option Kind). T (isSome o)) (sym (kind-part (a .mask .now) (a .b) (a .s) (start .pre .0 .1))) (start .pre .1 (eq-eqb (getD (a .plan .now) (a .q) 0) 1 (c .before .if1 .taken)))
 
 is-rate-01-requires : tie.Need-is-rate-01-requires
 is-rate-01-requires c κs = search needs
@@ -42,12 +42,12 @@ returns c =
     let a = start .args in
     c .is-rate-01 .ensures
     ∙ ap isRate01 (c .before .cut-kind .ensures ∙ kind-part (a .mask .now) (a .b) (a .s) (start .pre .0 .1))
-    ∙ sym (ap (λ (b : Bool). b && isRate01 (kindOf (a .s) (take (a .s) (drop (a .b) (a .mask .now))))) (eq-eqb (getD (a .plan .now) (a .p) 0) 1 (c .before .before .before .if1 .taken)))
+    ∙ sym (ap (λ (b : Bool). b && isRate01 (kindOf (a .s) (take (a .s) (drop (a .b) (a .mask .now))))) (eq-eqb (getD (a .plan .now) (a .q) 0) 1 (c .before .before .before .if1 .taken)))
 
 returns-2 : tie.Need-returns-2
 returns-2 c =
     let a = c .before .before .before .before .args in
-    sym (ap (λ (b : Bool). b && isRate01 (kindOf (a .s) (take (a .s) (drop (a .b) (a .mask .now))))) (ne-eqb (getD (a .plan .now) (a .p) 0) 1 (c .if1 .left)))
+    sym (ap (λ (b : Bool). b && isRate01 (kindOf (a .s) (take (a .s) (drop (a .b) (a .mask .now))))) (ne-eqb (getD (a .plan .now) (a .q) 0) 1 (c .if1 .left)))
 
 pub is-constant-spec : {M : Type 1} → statement M
 is-constant-spec =
