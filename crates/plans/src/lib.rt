@@ -58,46 +58,24 @@ struct Cost {
     edge: u32,
 }
 
+fn cost_row(well: bool, cycles: u32, edge: u32) -> Cost
+    ensures { λ r. ⌜ (r .well ≡ well) × (r .cycles ≡ cycles) × (r .edge ≡ edge) ⌝ }
+{
+    Cost { well, cycles, edge }
+}
+
 // A cut node of kind k.
 fn cut_cost(k: Kind) -> Cost
     ensures { λ r. ⌜ (r .well ≡ isSome (kindNamed k)) × (r .cycles ≡ cutCycles (kindNamed k)) × (r .edge ≡ cond (isRate01 (kindNamed k)) 0 2) ⌝ }
 {
     match k {
-        Kind::Rate0 => Cost {
-            well: true,
-            cycles: 0,
-            edge: 0,
-        },
-        Kind::Rate1 => Cost {
-            well: true,
-            cycles: 0,
-            edge: 0,
-        },
-        Kind::Rep => Cost {
-            well: true,
-            cycles: 2,
-            edge: 2,
-        },
-        Kind::Spc => Cost {
-            well: true,
-            cycles: 2,
-            edge: 2,
-        },
-        Kind::TypeI => Cost {
-            well: true,
-            cycles: 2,
-            edge: 2,
-        },
-        Kind::TypeIII => Cost {
-            well: true,
-            cycles: 2,
-            edge: 2,
-        },
-        Kind::NoKind => Cost {
-            well: false,
-            cycles: 0,
-            edge: 2,
-        },
+        Kind::Rate0 => cost_row(true, 0, 0),
+        Kind::Rate1 => cost_row(true, 0, 0),
+        Kind::Rep => cost_row(true, 2, 2),
+        Kind::Spc => cost_row(true, 2, 2),
+        Kind::TypeI => cost_row(true, 2, 2),
+        Kind::TypeIII => cost_row(true, 2, 2),
+        Kind::NoKind => cost_row(false, 0, 2),
     }
 }
 
