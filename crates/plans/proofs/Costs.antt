@@ -6,14 +6,14 @@ use mathlib.Core.Bool.{Bool, true, false, cond, _&&_}
 use mathlib.Core.Option.{Option, none, some}
 use mathlib.Core.List.{List}
 use borrow.Author.Tests.{eq-eqb, ne-eqb}
-use lib.ListN.{length, take, drop, getD}
+use lib.ListN.{length, take, drop, getD, length-drop}
 use lib.Pow.{pow-pos, pow-mono}
+use lib.Seq.{length-take-le, take-length, take-take, take-add, drop-drop, drop-at}
 use Rattle.model.specs.Kinds.{Kind, rate-0, rate-1, REP, SPC, type-I, type-III, kindOf, isSome}
 use Rattle.model.specs.Plans.{isCut, isRate01, wellCut, cutCycles, edgeCycles, cycles}
 use Rattle.model.proofs.Lists.{cond-both}
-use Rattle.kinds.proofs.Runs.{to-end}
-use Rattle.plans.specs.Nodes.{PlanNode, Costs, clearBelow}
-use Rattle.plans.proofs.Parts.{half, at-zero, at-suc, node-l, node-r}
+use Rattle.plans.specs.Nodes.{part, Span, Costs, clearBelow}
+use Rattle.plans.proofs.Parts.{twice, half, at-zero, at-suc, place-l, place-r}
 use Rattle.plans.proofs.Clear.{wellCut-clear}
 
 -- ---- bounds
@@ -51,21 +51,28 @@ unfolding cycles
 cycles-cut plan zero p mask e = refl
 cycles-cut plan (suc t) p mask e = rw e
 
-module _ {t p : ℕ} (plan mask : List ℕ) (h : PlanNode t p (length mask) plan) where
-  -- the kind of the node, by its stage
-  abbrev kindHere : Option Kind
-  kindHere = kindOf (length mask) mask
+-- ---- a node's positions of the mask
+module _ {t p b s : ℕ} (mask plan : List ℕ) (h : Span t p b s mask plan) where
+  abbrev here : List ℕ
+  here = part mask b s
 
-  staged {ℓ} : {A : Type ℓ} (f : Option Kind → A) → f kindHere ≡ f (kindOf (2 ^ t) mask)
-  staged f = ap (λ (m : ℕ). f (kindOf m mask)) (h .node .size)
+  here-size : length here ≡ 2 ^ t
+  here-size = length-take-le s (drop b mask) (omega (arith, length-drop b mask, h .span)) ∙ h .size
+
+  -- the kind that the code finds of the positions from b up to b + s
+  abbrev kindHere : Option Kind
+  kindHere = kindOf (length (take (b + s - b) (drop b mask))) (take (b + s - b) (drop b mask))
+
+  staged {ℓ} : {A : Type ℓ} (f : Option Kind → A) → f kindHere ≡ f (kindOf (2 ^ t) here)
+  staged f = let q : b + s - b ≡ s = omega arith in rw q (ap (λ (m : ℕ). f (kindOf m here)) here-size)
 
   pub costs-cut : {w x y : Bool} {c e : ℕ} → getD plan p 0 ≡ 1 → w ≡ (x && y) → x ≡ isSome kindHere → y ≡ clearBelow plan t p 1
-      → c ≡ cutCycles kindHere → e ≡ cond (isRate01 kindHere) 0 2 → Costs plan t p mask w c e
+      → c ≡ cutCycles kindHere → e ≡ cond (isRate01 kindHere) 0 2 → Costs plan t p here w c e
   costs-cut q a b d k l =
       let cut : isCut plan p ≡ true = eq-eqb (getD plan p 0) 1 q in
       record {
-        cuts = a ∙ ap₂ (λ (x y : Bool). x && y) (b ∙ staged isSome) d ∙ sym (wellCut-clear plan (h .bytes) t p mask cut);
-        own = k ∙ staged cutCycles ∙ sym (cycles-cut plan t p mask cut);
+        cuts = a ∙ ap₂ (λ (x y : Bool). x && y) (b ∙ staged isSome) d ∙ sym (wellCut-clear plan (h .bytes) t p here cut);
+        own = k ∙ staged cutCycles ∙ sym (cycles-cut plan t p here cut);
         edge = l ∙ staged (λ o. cond (isRate01 o) 0 2) ∙ rw cut;
       }
 
@@ -74,17 +81,17 @@ module _ {t p : ℕ} (plan mask : List ℕ) (h : PlanNode t p (length mask) plan
     uncut = ne-eqb (getD plan p 0) 1 q
 
     -- an uncut leaf
-    pub costs-leaf : {c : ℕ} → t ≡ 0 → c ≡ cutCycles kindHere → Costs plan t p mask false c 2
+    pub costs-leaf : {c : ℕ} → t ≡ 0 → c ≡ cutCycles kindHere → Costs plan t p here false c 2
     costs-leaf z k =
         record {
-          cuts = at-zero (λ t. false ≡ wellCut plan t p mask) t z (unfold wellCut in rw uncut);
-          own = k ∙ staged cutCycles ∙ at-zero (λ t. cutCycles (kindOf (2 ^ t) mask) ≡ cycles plan t p mask) t z (unfold cycles in refl);
+          cuts = at-zero (λ t. false ≡ wellCut plan t p here) t z (unfold wellCut in rw uncut);
+          own = k ∙ staged cutCycles ∙ at-zero (λ t. cutCycles (kindOf (2 ^ t) here) ≡ cycles plan t p here) t z (unfold cycles in refl);
           edge = rw uncut;
         }
 
     -- an uncut node
-    costs-node : (u : ℕ) {w x y : Bool} {c k l e i j : ℕ} → Costs plan u (2 * p) (take (2 ^ u) mask) x k i → Costs plan u (2 * p + 1) (drop (2 ^ u) mask) y l j
-        → w ≡ (x && y) → c ≡ 2 + (i + j) + (k + l) → e ≡ 2 → Costs plan (suc u) p mask w c e
+    costs-node : (u : ℕ) {w x y : Bool} {c k l e i j : ℕ} → Costs plan u (2 * p) (take (2 ^ u) here) x k i → Costs plan u (2 * p + 1) (drop (2 ^ u) here) y l j
+        → w ≡ (x && y) → c ≡ 2 + (i + j) + (k + l) → e ≡ 2 → Costs plan (suc u) p here w c e
     costs-node u A B a b d =
         record {
           cuts = a ∙ ap₂ (λ (x y : Bool). x && y) (A .cuts) (B .cuts) ∙ unfold wellCut in rw uncut;
@@ -92,17 +99,48 @@ module _ {t p : ℕ} (plan mask : List ℕ) (h : PlanNode t p (length mask) plan
           edge = d ∙ rw uncut;
         }
 
-    pub costs-down : {w x y : Bool} {c k l e i j : ℕ} → (t ≡ 0 → ⊥) → Costs plan (t - 1) (2 * p) (take (length mask / 2) mask) x k i
-        → Costs plan (t - 1) (2 * p + 1) (take (length mask - length mask / 2) (drop (length mask / 2) mask)) y l j
-        → w ≡ (x && y) → c ≡ 2 + (i + j) + (k + l) → e ≡ 2 → Costs plan t p mask w c e
-    costs-down {w} {x} {y} {c} {k} {l} {e} z A B a b d =
-        at-suc (λ t. Costs plan t p mask w c e) t z
-        (costs-node (t - 1) (rw (half (h .node .size) z) at A) (rw (to-end mask (length mask / 2), half (h .node .size) z) at B) a b d)
+  -- ---- the children
+  module _ (z : t ≡ 0 → ⊥) where
+    halved : s / 2 ≡ 2 ^ (t - 1)
+    halved = half (h .size) z
 
--- the children of a node
-module _ {t p : ℕ} (plan mask : List ℕ) (h : PlanNode t p (length mask) plan) (z : t ≡ 0 → ⊥) where
-  pub plan-l : PlanNode (t - 1) (2 * p) (length (take (length mask / 2) mask)) plan
-  plan-l = record { node = node-l mask (h .node) z; bytes = h .bytes }
+    part-l : part mask b (s / 2) ≡ take (2 ^ (t - 1)) here
+    part-l = rw halved (sym (take-take (2 ^ (t - 1)) s (drop b mask) (omega (arith, h .size, twice t z))))
 
-  pub plan-r : PlanNode (t - 1) (2 * p + 1) (length (take (length mask - length mask / 2) (drop (length mask / 2) mask))) plan
-  plan-r = record { node = node-r mask (h .node) z; bytes = h .bytes }
+    part-r : part mask (b + s / 2) (s / 2) ≡ drop (2 ^ (t - 1)) here
+    part-r =
+        let u : ℕ = 2 ^ (t - 1) in
+        let rest : List ℕ = drop b mask in
+        let both : s ≡ u + u = h .size ∙ twice t z ∙ omega arith in
+        let sized : length (take u rest) ≡ u = length-take-le u rest (omega (arith, length-drop b mask, h .span)) in
+        rw halved
+        (sym (ap (λ (k : ℕ). drop u (take k rest)) both ∙ ap (drop u) (take-add u u rest) ∙ drop-at (take u rest) (take u (drop u rest)) u sized ∙ ap (take u) (drop-drop u b mask)))
+
+    pub costs-down : {w x y : Bool} {c k l e i j : ℕ} → (getD plan p 0 ≡ 1 → ⊥) → Costs plan (t - 1) (2 * p) (part mask b (s / 2)) x k i
+        → Costs plan (t - 1) (2 * p + 1) (part mask (b + s / 2) (s / 2)) y l j → w ≡ (x && y) → c ≡ 2 + (i + j) + (k + l) → e ≡ 2 → Costs plan t p here w c e
+    costs-down {w} {x} {y} {c} {k} {l} {e} q A B a b d =
+        at-suc (λ t. Costs plan t p here w c e) t z (costs-node q (t - 1) (rw part-l at A) (rw part-r at B) a b d)
+
+    pub span-l : Span (t - 1) (2 * p) b (s / 2) mask plan
+    span-l =
+        record {
+          size = halved;
+          low = let q = h .low in omega arith;
+          span = let q = h .span in omega arith;
+          place = place-l (h .place) z;
+          bytes = h .bytes;
+        }
+
+    pub span-r : Span (t - 1) (2 * p + 1) (b + s / 2) (s / 2) mask plan
+    span-r =
+        record {
+          size = halved;
+          low = let q = h .low in omega arith;
+          span = let q = h .span in omega arith;
+          place = place-r (h .place) z;
+          bytes = h .bytes;
+        }
+
+-- the root has the whole mask
+pub costs-root : {plan : List ℕ} {t p : ℕ} (mask : List ℕ) {w : Bool} {c e : ℕ} → Costs plan t p (part mask 0 (length mask)) w c e → Costs plan t p mask w c e
+costs-root mask A = rw (take-length mask) at A

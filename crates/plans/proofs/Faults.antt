@@ -14,7 +14,7 @@ use Rattle.model.specs.Refusals.{Test, refusal, exponent, row-5, row-6, checkNu
 use Rattle.model.proofs.Lists.{T-true, true-T, and-l, and-r}
 use Rattle.model.proofs.Paths.{wellCut-test}
 use Rattle.model.proofs.Refusals.{exponent-power}
-use Rattle.plans.specs.Nodes.{PlanNode}
+use Rattle.plans.specs.Nodes.{Span}
 use Rattle.plans.specs.Faults.{faultNumber, faultCycles}
 use Rattle.plans.proofs.Parts.{root}
 
@@ -40,16 +40,15 @@ module _ (n : ℕ) (mask plan : List ℕ) where
   unfolding faultCycles faultNumber refusal
   fault-0 p w e = (rw (p, cuts-test w), rw (p, cuts-test w) e)
 
-  -- a plan of 2N bytes has its root
-  pub plan-root : length mask ≡ 2 ^ n → n ≤ 10 → isPlan n plan ≡ true → PlanNode n 1 (length mask) plan
+  -- the root of a plan of 2N bytes
+  pub plan-root : length mask ≡ 2 ^ n → n ≤ 10 → isPlan n plan ≡ true → Span n 1 0 (length mask) mask plan
   unfolding isPlan
   plan-root s low p =
-      let t : T (eqb (length plan) (2 * 2 ^ n) && (atMost 1 plan && eqb (getD plan 0 0) 0)) = true-T (eqb (length plan) (2 * 2 ^ n) && (atMost 1 plan && eqb (getD plan 0 0) 0)) p in
-      let size : length plan ≡ 2 * 2 ^ n = eqb-true (length plan) (2 * 2 ^ n) (T-true (eqb (length plan) (2 * 2 ^ n)) (and-l (eqb (length plan) (2 * 2 ^ n)) (atMost 1 plan && eqb (getD plan 0 0) 0) t)) in
-      record {
-        node = record { size = s; low = low; place = root n (omega arith) };
-        bytes = and-l (atMost 1 plan) (eqb (getD plan 0 0) 0) (and-r (eqb (length plan) (2 * 2 ^ n)) (atMost 1 plan && eqb (getD plan 0 0) 0) t);
-      }
+      let sizeTest : Bool = eqb (length plan) (2 * 2 ^ n) in
+      let rest : Bool = atMost 1 plan && eqb (getD plan 0 0) 0 in
+      let t : T (sizeTest && rest) = true-T (sizeTest && rest) p in
+      let size : length plan ≡ 2 * 2 ^ n = eqb-true (length plan) (2 * 2 ^ n) (T-true sizeTest (and-l sizeTest rest t)) in
+      record { size = s; low = low; span = omega arith; place = root n (omega arith); bytes = and-l (atMost 1 plan) (eqb (getD plan 0 0) 0) (and-r sizeTest rest t) }
 
   -- number 0 says that the plan is allowed
   pub fault-allowed : 0 ≡ faultNumber n mask plan → Allowed n plan mask

@@ -20,9 +20,16 @@ pub record Node (t p m l : ℕ) : Type 0 where
   pub low : t ≤ 10
   pub place : Place t p l
 
--- and the bytes of the plan are 0 and 1
-pub record PlanNode (t p m : ℕ) (plan : List ℕ) : Type 0 where
-  pub node : Node t p m (length plan)
+-- s positions of a mask, from b on
+abbrev pub part : List ℕ → ℕ → ℕ → List ℕ
+part mask b s = take s (drop b mask)
+
+-- node p of stage t has the s positions of the mask from b on, and its bytes in a plan of bytes 0 and 1
+pub record Span (t p b s : ℕ) (mask plan : List ℕ) : Type 0 where
+  pub size : s ≡ 2 ^ t
+  pub low : t ≤ 10
+  pub span : b + s ≤ length mask
+  pub place : Place t p (length plan)
   pub bytes : T (atMost 1 plan)
 
 -- u levels below a row of nodes, from node a on and as many as w, hold only 0

@@ -1,5 +1,5 @@
 // The planner, the check of a plan, and the cycles of one sweep.
-// A recursion goes down the tree with a node's part of the mask, its stage t and its number p: 2p and 2p + 1 are its children.
+// A recursion goes down the tree with a node's stage t, its number p, and its positions of the mask: 2p and 2p + 1 are its children.
 use inputs::at_most;
 use inputs::exponent_of;
 use kinds::Kind;
@@ -15,7 +15,7 @@ ghost use Rattle.model.specs.Kinds.{isSome};
 ghost use Rattle.model.specs.Plans.{isRate01, cutCycles};
 ghost use Rattle.model.specs.Refusals.{planNumber, planBytes, planCounts, checkNumber, checkCycles};
 ghost use Rattle.kinds.specs.Runs.{kindNamed};
-ghost use Rattle.plans.specs.Nodes.{Place, Node, PlanNode, clearBelow, Costs, rowOf, written, counted, Free};
+ghost use Rattle.plans.specs.Nodes.{Place, Node, Span, part, clearBelow, Costs, rowOf, written, counted, Free};
 ghost use Rattle.plans.specs.Faults.{faultNumber, faultCycles};
 
 // The largest mask byte.
@@ -91,13 +91,15 @@ fn joined(a: Cost, b: Cost) -> Cost
     }
 }
 
-// What the check finds at node p, of stage t, in one pass from it down.
-fn cost_at(mask: &[u8], plan: &[u8], t: usize, p: usize) -> Cost
-    requires { ⌜ PlanNode t p (length (now mask)) (now plan) ⌝ }
-    ensures { λ r. ⌜ Costs (now (plan .entry)) t p (now (mask .entry)) (r .well) (r .cycles) (r .edge) ⌝ }
+// What the check finds at node p, of stage t, in one pass from it down. The node has the s positions of the mask from b on:
+// a part of the mask is made at a cut only, since a part that is handed on in each call costs more than two numbers.
+fn cost_at(mask: &[u8], plan: &[u8], t: usize, p: usize, b: usize, s: usize) -> Cost
+    requires { ⌜ Span t p b s (now mask) (now plan) ⌝ }
+    ensures { λ r. ⌜ Costs (now (plan .entry)) t p (part (now (mask .entry)) b s) (r .well) (r .cycles) (r .edge) ⌝ }
 {
+    let e = b + s;
     if plan[p] == 1 {
-        let c = cut_cost(kind_of(mask));
+        let c = cut_cost(kind_of(&mask[b..e]));
         return Cost {
             well: both(c.well, no_cut_below(plan, t, p)),
             cycles: c.cycles,
@@ -105,7 +107,7 @@ fn cost_at(mask: &[u8], plan: &[u8], t: usize, p: usize) -> Cost
         };
     }
     if t == 0 {
-        let c = cut_cost(kind_of(mask));
+        let c = cut_cost(kind_of(&mask[b..e]));
         return Cost {
             well: false,
             cycles: c.cycles,
@@ -113,12 +115,11 @@ fn cost_at(mask: &[u8], plan: &[u8], t: usize, p: usize) -> Cost
         };
     }
     let u = t - 1;
+    let h = s / 2;
     let l = 2 * p;
-    let r = l + 1;
-    let h = mask.len() / 2;
-    let a = cost_at(&mask[..h], plan, u, l);
-    let b = cost_at(&mask[h..], plan, u, r);
-    joined(a, b)
+    let left = cost_at(mask, plan, u, l, b, h);
+    let right = cost_at(mask, plan, u, l + 1, b + h, h);
+    joined(left, right)
 }
 
 // Whether a plan has the given size, bytes of 0 and 1, and byte 0 is 0.
@@ -153,7 +154,7 @@ pub fn fault_of(mask: &[u8], plan: &[u8], t: usize) -> Fault
             cycles: 0,
         };
     }
-    let c = cost_at(mask, plan, t, 1);
+    let c = cost_at(mask, plan, t, 1, 0, mask.len());
     if c.well {
         Fault {
             number: 0,

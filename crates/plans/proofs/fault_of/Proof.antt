@@ -6,6 +6,7 @@ use borrow.Author.Needs.{needs}
 use borrow.Author.Tests.{not-true, not-false}
 use lib.Pow.{pow-pos}
 use Rattle.model.specs.Plans.{isPlan}
+use Rattle.plans.proofs.Costs.{costs-root}
 use Rattle.plans.proofs.Faults.{plan-test, plan-root, fault-5, fault-6, fault-0}
 use Rattle.plans.proofs.fault_of.Statement.{statement}
 use Rattle.plans.proofs.fault_of.Tie as tie
@@ -42,14 +43,14 @@ returns-2 : tie.Need-returns-2
 returns-2 c =
     let d = c .before .before in
     let a = d .before .before .before .before .args in
-    let found = c .before .cost-at .ensures in
+    let found = costs-root (a .mask .now) (c .before .cost-at .ensures) in
     fault-0 (a .t) (a .mask .now) (a .plan .now) (planned d) (sym (found .cuts) ∙ c .if2 .taken) (found .own)
 
 returns-3 : tie.Need-returns-3
 returns-3 c =
     let d = c .before .before in
     let a = d .before .before .before .before .args in
-    fault-6 (a .t) (a .mask .now) (a .plan .now) (planned d) (sym (c .before .cost-at .ensures .cuts) ∙ c .if2 .left)
+    fault-6 (a .t) (a .mask .now) (a .plan .now) (planned d) (sym (costs-root (a .mask .now) (c .before .cost-at .ensures) .cuts) ∙ c .if2 .left)
 
 pub fault-of-spec : {M : Type 1} → statement M
 fault-of-spec =
