@@ -1,0 +1,96 @@
+-- The numbers of a plan's test and of its check, case by case. Assumes nothing.
+use Prim.Native.Nat.{ℕ, _*_, _^_, _≤_}
+use native.Mathlib.Omega.{arith}
+use mathlib.Core.Path.{_≡_, refl, sym, _∙_}
+use mathlib.Core.Bool.{Bool, true, false, cond, _&&_}
+use mathlib.Core.List.{List, _∷_}
+use borrow.Author.Tests.{ne-eqb, eqb-true}
+use lib.Dec.{T, eqb}
+use lib.ListN.{length, getD}
+use Rattle.model.specs.Lists.{atMost}
+use Rattle.model.specs.Encoding.{maxMask}
+use Rattle.model.specs.Plans.{isPlan, oneCut, cutsOfKinds, wellCut, Allowed, cycles}
+use Rattle.model.specs.Refusals.{Test, refusal, exponent, row-5, row-6, checkNumber, checkCycles}
+use Rattle.model.proofs.Lists.{T-true, true-T, and-l, and-r}
+use Rattle.model.proofs.Paths.{wellCut-test}
+use Rattle.model.proofs.Refusals.{exponent-power}
+use Rattle.plans.specs.Nodes.{Span}
+use Rattle.plans.specs.Faults.{faultNumber, faultCycles}
+use Rattle.plans.proofs.Parts.{root}
+
+module _ (n : ℕ) (mask plan : List ℕ) where
+  -- what the code tests is row 5
+  pub plan-test : {b : Bool} → length mask ≡ 2 ^ n → b ≡ (eqb (length plan) (2 * length mask) && (atMost 1 plan && eqb (getD plan 0 0) 0)) → b ≡ isPlan n plan
+  unfolding isPlan
+  plan-test s e = e ∙ rw s
+
+  -- row 6 is what the recursion finds
+  cuts-test : {b : Bool} → wellCut plan n 1 mask ≡ b → (oneCut n plan && cutsOfKinds plan n 1 mask) ≡ b
+  cuts-test e = sym (wellCut-test n plan mask) ∙ e
+
+  pub fault-5 : isPlan n plan ≡ false → (5 ≡ faultNumber n mask plan) × (0 ≡ faultCycles n mask plan)
+  unfolding faultCycles faultNumber refusal
+  fault-5 p = (rw p, rw p)
+
+  pub fault-6 : isPlan n plan ≡ true → wellCut plan n 1 mask ≡ false → (6 ≡ faultNumber n mask plan) × (0 ≡ faultCycles n mask plan)
+  unfolding faultCycles faultNumber refusal
+  fault-6 p w = (rw (p, cuts-test w), rw (p, cuts-test w))
+
+  pub fault-0 : {c : ℕ} → isPlan n plan ≡ true → wellCut plan n 1 mask ≡ true → c ≡ cycles plan n 1 mask → (0 ≡ faultNumber n mask plan) × (c ≡ faultCycles n mask plan)
+  unfolding faultCycles faultNumber refusal
+  fault-0 p w e = (rw (p, cuts-test w), rw (p, cuts-test w) e)
+
+  -- the root of a plan of 2N bytes
+  pub plan-root : length mask ≡ 2 ^ n → n ≤ 10 → isPlan n plan ≡ true → Span n 1 0 (length mask) mask plan
+  unfolding isPlan
+  plan-root s low p =
+      let sizeTest : Bool = eqb (length plan) (2 * 2 ^ n) in
+      let rest : Bool = atMost 1 plan && eqb (getD plan 0 0) 0 in
+      let t : T (sizeTest && rest) = true-T (sizeTest && rest) p in
+      let size : length plan ≡ 2 * 2 ^ n = eqb-true (length plan) (2 * 2 ^ n) (T-true sizeTest (and-l sizeTest rest t)) in
+      record { size = s; low = low; span = omega arith; place = root n (omega arith); bytes = and-l (atMost 1 plan) (eqb (getD plan 0 0) 0) (and-r sizeTest rest t) }
+
+  -- number 0 says that the plan is allowed
+  pub fault-allowed : 0 ≡ faultNumber n mask plan → Allowed n plan mask
+  unfolding faultNumber refusal
+  fault-allowed e = go (isPlan n plan) refl (oneCut n plan) refl (cutsOfKinds plan n 1 mask) refl e
+    where
+      go : (a : Bool) → isPlan n plan ≡ a → (b : Bool) → oneCut n plan ≡ b → (d : Bool) → cutsOfKinds plan n 1 mask ≡ d
+          → _≡_ {A = ℕ} 0 (cond a (cond (b && d) 0 6) 5) → Allowed n plan mask
+      go true p true q true r e = record { bytes = true-T (isPlan n plan) p; paths = true-T (oneCut n plan) q; kinds = true-T (cutsOfKinds plan n 1 mask) r }
+      go true p true q false r e = absurd (omega arith)
+      go true p false q d r e = absurd (omega arith)
+      go false p b q d r e = absurd (omega arith)
+
+  -- tests after rows 5 and 6 are reached where they pass
+  pub fault-then : (ts : List Test) → refusal (row-5 n plan ∷ row-6 n plan mask ∷ ts) ≡ cond (eqb (faultNumber n mask plan) 0) (refusal ts) (faultNumber n mask plan)
+  unfolding faultNumber refusal
+  fault-then ts = go (isPlan n plan) (oneCut n plan && cutsOfKinds plan n 1 mask)
+    where
+      go : (a b : Bool) → cond a (cond b (refusal ts) 6) 5 ≡ cond (eqb (cond a (cond b 0 6) 5) 0) (refusal ts) (cond a (cond b 0 6) 5)
+      go true true = refl
+      go true false = refl
+      go false b = refl
+
+-- the stage that is found is the mask's
+pub staged : {t : ℕ} (mask : List ℕ) → t ≡ exponent (length mask) → (t ≡ 0 → ⊥) → (length mask ≡ 2 ^ t) × (t ≤ 10)
+staged {t} mask s e = rw s (exponent-power (length mask) (λ z. e (s ∙ z)))
+
+module _ {t : ℕ} (mask plan : List ℕ) (s : t ≡ exponent (length mask)) where
+  pub check-1 : t ≡ 0 → (1 ≡ checkNumber mask plan) × (0 ≡ checkCycles mask plan)
+  unfolding checkNumber checkCycles refusal
+  check-1 e = let z : exponent (length mask) ≡ 0 = sym s ∙ e in (rw z, rw z)
+
+  module _ (e : t ≡ 0 → ⊥) where
+    sized : eqb (exponent (length mask)) 0 ≡ false
+    sized = ne-eqb (exponent (length mask)) 0 (λ z. e (s ∙ z))
+
+    pub check-2 : atMost maxMask mask ≡ false → (2 ≡ checkNumber mask plan) × (0 ≡ checkCycles mask plan)
+    unfolding checkNumber checkCycles refusal
+    check-2 b = (rw (sized, b), rw (sized, b))
+
+    pub check-fault : {f c : ℕ} → atMost maxMask mask ≡ true → f ≡ faultNumber t mask plan → c ≡ faultCycles t mask plan
+        → (f ≡ checkNumber mask plan) × (c ≡ checkCycles mask plan)
+    unfolding checkNumber checkCycles refusal faultNumber faultCycles
+    check-fault b p q =
+        (p ∙ rw (s, sized, b), q ∙ rw (s, sized, b))

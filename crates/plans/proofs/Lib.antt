@@ -1,0 +1,9 @@
+pub mod Parts
+pub mod Clear
+pub mod Costs
+pub mod Faults
+pub mod Written
+pub mod Counted
+pub mod Steps
+pub mod Answers
+pub mod Results

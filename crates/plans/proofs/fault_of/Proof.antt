@@ -1,0 +1,57 @@
+-- `plans::fault_of` meets its contract: its tests are rows 5 and 6. Assumes nothing.
+use mathlib.Core.Path.{_≡_, sym, _∙_}
+use mathlib.Core.Bool.{true}
+use native.Mathlib.Omega.{arith}
+use borrow.Author.Needs.{needs}
+use borrow.Author.Tests.{not-true, not-false}
+use lib.Pow.{pow-pos}
+use Rattle.model.specs.Plans.{isPlan}
+use Rattle.plans.proofs.Costs.{costs-root}
+use Rattle.plans.proofs.Faults.{plan-test, plan-root, fault-5, fault-6, fault-0}
+use Rattle.plans.proofs.fault_of.Statement.{statement}
+use Rattle.plans.proofs.fault_of.Tie as tie
+
+mul-is-plan : tie.Need-mul-is-plan
+mul-is-plan c = search needs
+
+is-plan-requires : tie.Need-is-plan-requires
+is-plan-requires c κs = let s = c .before .before in omega (arith, pow-pos (s .args .t), s .pre)
+
+returns : tie.Need-returns
+returns c =
+    let s = c .before .before .before .before in
+    let a = s .args in
+    let told = c .before .is-plan in
+    fault-5 (a .t) (a .mask .now) (a .plan .now)
+    (sym (plan-test (a .t) (a .mask .now) (a .plan .now) (s .pre .0) (told .ensures)) ∙ not-true (told .result) (c .if1 .taken))
+
+-- row 5 was passed
+planned : (c : tie.Else1) → let a = c .before .before .before .before .args in isPlan (a .t) (a .plan .now) ≡ true
+planned c =
+    let s = c .before .before .before .before in
+    let a = s .args in
+    let told = c .before .is-plan in
+    sym (plan-test (a .t) (a .mask .now) (a .plan .now) (s .pre .0) (told .ensures)) ∙ not-false (told .result) (c .if1 .left)
+
+cost-at-requires : tie.Need-cost-at-requires
+cost-at-requires c κs =
+    let s = c .before .before .before .before in
+    let a = s .args in
+    plan-root (a .t) (a .mask .now) (a .plan .now) (s .pre .0) (s .pre .1) (planned c)
+
+returns-2 : tie.Need-returns-2
+returns-2 c =
+    let d = c .before .before in
+    let a = d .before .before .before .before .args in
+    let found = costs-root (a .mask .now) (c .before .cost-at .ensures) in
+    fault-0 (a .t) (a .mask .now) (a .plan .now) (planned d) (sym (found .cuts) ∙ c .if2 .taken) (found .own)
+
+returns-3 : tie.Need-returns-3
+returns-3 c =
+    let d = c .before .before in
+    let a = d .before .before .before .before .args in
+    fault-6 (a .t) (a .mask .now) (a .plan .now) (planned d) (sym (costs-root (a .mask .now) (c .before .cost-at .ensures) .cuts) ∙ c .if2 .left)
+
+pub fault-of-spec : {M : Type 1} → statement M
+fault-of-spec =
+    tie.close (tie.spec mul-is-plan is-plan-requires returns cost-at-requires returns-2 returns-3)

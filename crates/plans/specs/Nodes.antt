@@ -1,0 +1,71 @@
+-- Nodes and their bytes in a plan; what the recursions of the code give at a node. Assumes nothing.
+use Prim.Native.Nat.{ℕ, zero, suc, _+_, _*_, _^_, _≤_}
+use mathlib.Core.Path.{_≡_}
+use mathlib.Core.Bool.{Bool, true, cond, _&&_}
+use mathlib.Core.Option.{Option, none, some}
+use mathlib.Core.List.{List}
+use lib.Dec.{T}
+use lib.ListN.{take, drop, set, getD, length}
+use Rattle.model.specs.Lists.{atMost}
+use Rattle.model.specs.Kinds.{Kind, order, row, isSome, kindOf}
+use Rattle.model.specs.Plans.{wellCut, cycles, edgeCycles}
+
+-- node p of stage t and the nodes below it have their bytes in a plan of l bytes
+pub record Place (t p l : ℕ) : Type 0 where
+  pub room : (p + 1) * 2 ^ t ≤ l
+
+-- and its part of the mask has m positions
+pub record Node (t p m l : ℕ) : Type 0 where
+  pub size : m ≡ 2 ^ t
+  pub low : t ≤ 10
+  pub place : Place t p l
+
+-- s positions of a mask, from b on
+abbrev pub part : List ℕ → ℕ → ℕ → List ℕ
+part mask b s = take s (drop b mask)
+
+-- node p of stage t has the s positions of the mask from b on, and its bytes in a plan of bytes 0 and 1
+pub record Span (t p b s : ℕ) (mask plan : List ℕ) : Type 0 where
+  pub size : s ≡ 2 ^ t
+  pub low : t ≤ 10
+  pub span : b + s ≤ length mask
+  pub place : Place t p (length plan)
+  pub bytes : T (atMost 1 plan)
+
+-- u levels below a row of nodes, from node a on and as many as w, hold only 0
+unfoldable pub clearBelow : List ℕ → ℕ → ℕ → ℕ → Bool
+clearBelow plan zero a w = true
+clearBelow plan (suc u) a w = atMost 0 (take (2 * w) (drop (2 * a) plan)) && clearBelow plan u (2 * a) (2 * w)
+
+-- what the check finds at node p of stage t
+pub record Costs (plan : List ℕ) (t p : ℕ) (mask : List ℕ) (well : Bool) (c e : ℕ) : Type 0 where
+  pub cuts : well ≡ wellCut plan t p mask
+  pub own : c ≡ cycles plan t p mask
+  pub edge : e ≡ edgeCycles plan (2 ^ t) p mask
+
+-- a plan with the planner's cuts from node p of stage t down put in
+unfoldable pub written : ℕ → ℕ → List ℕ → List ℕ → List ℕ
+written zero p mask plan = cond (isSome (kindOf 1 mask)) (set plan p 1) plan
+written (suc t) p mask plan =
+    let below : List ℕ = written t (2 * p + 1) (drop (2 ^ t) mask) (written t (2 * p) (take (2 ^ t) mask) plan) in
+    cond (isSome (kindOf (2 ^ suc t) mask)) (set plan p 1) below
+
+-- a kind's place in the table's order, and the number of kinds for none
+abbrev pub rowOf : Option Kind → ℕ
+rowOf none = length order
+rowOf (some k) = row k
+
+-- one more of a row
+abbrev pub noted : ℕ → List ℕ → List ℕ
+noted i cs = set cs i (getD cs i 0 + 1)
+
+-- counts by kind with the planner's cuts of a node of stage t added
+unfoldable pub counted : ℕ → List ℕ → List ℕ → List ℕ
+counted zero mask cs = cond (isSome (kindOf 1 mask)) (noted (rowOf (kindOf 1 mask)) cs) cs
+counted (suc t) mask cs =
+    let below : List ℕ = counted t (drop (2 ^ t) mask) (counted t (take (2 ^ t) mask) cs) in
+    cond (isSome (kindOf (2 ^ suc t) mask)) (noted (rowOf (kindOf (2 ^ suc t) mask)) cs) below
+
+-- each count can take the cuts of a node of stage t
+pub record Free (t : ℕ) (cs : List ℕ) : Type 0 where
+  pub free : (i : ℕ) → getD cs i 0 + 2 ^ t ≤ 65536

@@ -1,0 +1,278 @@
+// The planner, the check of a plan, and the cycles of one sweep.
+// A recursion goes down the tree with a node's stage t, its number p, and its positions of the mask: 2p and 2p + 1 are its children.
+use inputs::at_most;
+use inputs::exponent_of;
+use kinds::Kind;
+use kinds::kind_of;
+ghost use mathlib.Core.Path.{_≡_};
+ghost use mathlib.Core.Bool.{cond, _&&_};
+ghost use mathlib.Core.List.{_++_};
+ghost use Prim.Native.Nat.{_+_, _*_, _≤_, _<_, _^_};
+ghost use lib.Dec.{eqb};
+ghost use lib.ListN.{length, getD, drop, replicate};
+ghost use Rattle.model.specs.Lists.{atMost};
+ghost use Rattle.model.specs.Kinds.{isSome};
+ghost use Rattle.model.specs.Plans.{isRate01, cutCycles};
+ghost use Rattle.model.specs.Refusals.{planNumber, planBytes, planCounts, checkNumber, checkCycles};
+ghost use Rattle.kinds.specs.Runs.{kindNamed};
+ghost use Rattle.plans.specs.Nodes.{Place, Node, Span, part, clearBelow, Costs, rowOf, written, counted, Free};
+ghost use Rattle.plans.specs.Faults.{faultNumber, faultCycles};
+
+// The largest mask byte.
+const MAX_MASK: u8 = 1;
+
+// The number of kinds.
+const KINDS: usize = 6;
+
+fn both(a: bool, b: bool) -> bool
+    ensures { λ r. ⌜ r ≡ (a && b) ⌝ }
+{
+    if a { b } else { false }
+}
+
+// Whether no node below node p, of stage t, is cut. The nodes of a level below p lie side by side in the plan.
+fn no_cut_below(plan: &[u8], t: usize, p: usize) -> bool
+    requires { ⌜ Place t p (length (now plan)) ⌝ }
+    ensures { λ r. ⌜ r ≡ clearBelow (now (plan .entry)) t p 1 ⌝ }
+{
+    let mut first = p;
+    let mut width: usize = 1;
+    let mut u = t;
+    while 0 < u {
+        first = 2 * first;
+        width = 2 * width;
+        let end = first + width;
+        if !at_most(&plan[first..end], 0) {
+            return false;
+        }
+        u -= 1;
+    }
+    true
+}
+
+// What the check finds at a node: whether each path from it down has exactly one cut, at a node of some kind;
+// its cycles with those below it; and the cycles that its parent counts for the edge to it.
+struct Cost {
+    well: bool,
+    cycles: u32,
+    edge: u32,
+}
+
+fn cost_row(well: bool, cycles: u32, edge: u32) -> Cost
+    ensures { λ r. ⌜ (r .well ≡ well) × (r .cycles ≡ cycles) × (r .edge ≡ edge) ⌝ }
+{
+    Cost { well, cycles, edge }
+}
+
+// A cut node of kind k.
+fn cut_cost(k: Kind) -> Cost
+    ensures { λ r. ⌜ (r .well ≡ isSome (kindNamed k)) × (r .cycles ≡ cutCycles (kindNamed k)) × (r .edge ≡ cond (isRate01 (kindNamed k)) 0 2) ⌝ }
+{
+    match k {
+        Kind::Rate0 => cost_row(true, 0, 0),
+        Kind::Rate1 => cost_row(true, 0, 0),
+        Kind::Rep => cost_row(true, 2, 2),
+        Kind::Spc => cost_row(true, 2, 2),
+        Kind::TypeI => cost_row(true, 2, 2),
+        Kind::TypeIII => cost_row(true, 2, 2),
+        Kind::NoKind => cost_row(false, 0, 2),
+    }
+}
+
+// An uncut node with the children a and b.
+fn joined(a: Cost, b: Cost) -> Cost
+    requires { ⌜ (a .cycles ≤ 16384) × (a .edge ≤ 2) × (b .cycles ≤ 16384) × (b .edge ≤ 2) ⌝ }
+    ensures { λ r. ⌜ (r .well ≡ (a .well && b .well)) × (r .cycles ≡ 2 + (a .edge + b .edge) + (a .cycles + b .cycles)) × (r .edge ≡ 2) ⌝ }
+{
+    Cost {
+        well: both(a.well, b.well),
+        cycles: 2 + (a.edge + b.edge) + (a.cycles + b.cycles),
+        edge: 2,
+    }
+}
+
+// What the check finds at node p, of stage t, in one pass from it down. The node has the s positions of the mask from b on:
+// a part of the mask is made at a cut only, since a part that is handed on in each call costs more than two numbers.
+fn cost_at(mask: &[u8], plan: &[u8], t: usize, p: usize, b: usize, s: usize) -> Cost
+    requires { ⌜ Span t p b s (now mask) (now plan) ⌝ }
+    ensures { λ r. ⌜ Costs (now (plan .entry)) t p (part (now (mask .entry)) b s) (r .well) (r .cycles) (r .edge) ⌝ }
+{
+    let e = b + s;
+    if plan[p] == 1 {
+        let c = cut_cost(kind_of(&mask[b..e]));
+        return Cost {
+            well: both(c.well, no_cut_below(plan, t, p)),
+            cycles: c.cycles,
+            edge: c.edge,
+        };
+    }
+    if t == 0 {
+        let c = cut_cost(kind_of(&mask[b..e]));
+        return Cost {
+            well: false,
+            cycles: c.cycles,
+            edge: 2,
+        };
+    }
+    let u = t - 1;
+    let h = s / 2;
+    let l = 2 * p;
+    let left = cost_at(mask, plan, u, l, b, h);
+    let right = cost_at(mask, plan, u, l + 1, b + h, h);
+    joined(left, right)
+}
+
+// Whether a plan has the given size, bytes of 0 and 1, and byte 0 is 0.
+fn is_plan(plan: &[u8], size: usize) -> bool
+    requires { ⌜ 0 < size ⌝ }
+    ensures { λ r. ⌜ r ≡ (eqb (length (now (plan .entry))) size && (atMost 1 (now (plan .entry)) && eqb (getD (now (plan .entry)) 0 0) 0)) ⌝ }
+{
+    if plan.len() != size {
+        return false;
+    }
+    if at_most(plan, 1) {
+        plan[0] == 0
+    } else {
+        false
+    }
+}
+
+// Tests 5 and 6 of a plan: the number, and the cycles of one sweep if it is 0.
+pub struct Fault {
+    pub number: u32,
+    pub cycles: u32,
+}
+
+// Tests a plan for a mask of 2 ^ t bytes. The decoder shares it.
+pub fn fault_of(mask: &[u8], plan: &[u8], t: usize) -> Fault
+    requires { ⌜ (length (now mask) ≡ 2 ^ t) × (t ≤ 10) ⌝ }
+    ensures { λ r. ⌜ (r .number ≡ faultNumber t (now (mask .entry)) (now (plan .entry))) × (r .cycles ≡ faultCycles t (now (mask .entry)) (now (plan .entry))) ⌝ }
+{
+    if !is_plan(plan, 2 * mask.len()) {
+        return Fault {
+            number: 5,
+            cycles: 0,
+        };
+    }
+    let c = cost_at(mask, plan, t, 1, 0, mask.len());
+    if c.well {
+        Fault {
+            number: 0,
+            cycles: c.cycles,
+        }
+    } else {
+        Fault {
+            number: 6,
+            cycles: 0,
+        }
+    }
+}
+
+// What a check of a plan answers: the number, and the cycles of one sweep.
+pub struct Checked {
+    pub number: u32,
+    pub cycles: u32,
+}
+
+// Checks a plan for a mask.
+pub fn check_plan(mask: &[u8], plan: &[u8]) -> Checked
+    ensures { λ r. ⌜ (r .number ≡ checkNumber (now (mask .entry)) (now (plan .entry))) × (r .cycles ≡ checkCycles (now (mask .entry)) (now (plan .entry))) ⌝ }
+{
+    let t = exponent_of(mask.len());
+    if t == 0 {
+        return Checked {
+            number: 1,
+            cycles: 0,
+        };
+    }
+    if !at_most(mask, MAX_MASK) {
+        return Checked {
+            number: 2,
+            cycles: 0,
+        };
+    }
+    let f = fault_of(mask, plan, t);
+    Checked {
+        number: f.number,
+        cycles: f.cycles,
+    }
+}
+
+// Sets the first n bytes to 0.
+fn zero_front(plan: &mut [u8], n: usize)
+    requires { ⌜ n ≤ length (now plan) ⌝ }
+    ensures { λ _. ⌜ now (plan .exit) ≡ replicate n 0 ++ drop n (now (plan .entry)) ⌝ }
+{
+    let mut i = 0;
+    while i < n {
+        plan[i] = 0;
+        i += 1;
+    }
+}
+
+// The place of a kind in the table's order, and the number of kinds for none.
+fn row_of(k: Kind) -> usize
+    ensures { λ r. ⌜ r ≡ rowOf (kindNamed k) ⌝ }
+{
+    match k {
+        Kind::Rate0 => 0,
+        Kind::Rate1 => 1,
+        Kind::Rep => 2,
+        Kind::Spc => 3,
+        Kind::TypeI => 4,
+        Kind::TypeIII => 5,
+        Kind::NoKind => KINDS,
+    }
+}
+
+// Cuts each node of a kind, from node p of stage t down, that has no such node above it, and counts it by its kind.
+fn write_plan(mask: &[u8], plan: &mut [u8], counts: &mut [u32; 6], t: usize, p: usize)
+    requires { ⌜ Node t p (length (now mask)) (length (now plan)) ⌝ }
+    requires { ⌜ Free t (now counts) ⌝ }
+    ensures { λ _. ⌜ now (plan .exit) ≡ written t p (now (mask .entry)) (now (plan .entry)) ⌝ }
+    ensures { λ _. ⌜ now (counts .exit) ≡ counted t (now (mask .entry)) (now (counts .entry)) ⌝ }
+{
+    let i = row_of(kind_of(mask));
+    if i < KINDS {
+        plan[p] = 1;
+        counts[i] += 1;
+        return;
+    }
+    if t == 0 {
+        return;
+    }
+    let u = t - 1;
+    let l = 2 * p;
+    let r = l + 1;
+    let h = mask.len() / 2;
+    write_plan(&mask[..h], plan, counts, u, l);
+    write_plan(&mask[h..], plan, counts, u, r);
+}
+
+// What the planner answers: the number, and the counts of cut nodes by kind, in table order.
+pub struct Planned {
+    pub number: u32,
+    pub counts: [u32; 6],
+}
+
+// Writes the plan that cuts each node of a kind that has no such node above it.
+pub fn plan_mask(mask: &[u8], plan: &mut [u8]) -> Planned
+    ensures { λ r. ⌜ (r .number ≡ planNumber (now (mask .entry)) (length (now (plan .entry)))) × (r .counts ≡ planCounts (now (mask .entry)) (length (now (plan .entry)))) ⌝ }
+    ensures { λ _. ⌜ now (plan .exit) ≡ planBytes (now (mask .entry)) (now (plan .entry)) ⌝ }
+{
+    let mut counts = [0u32; 6];
+    let t = exponent_of(mask.len());
+    if t == 0 {
+        return Planned { number: 1, counts };
+    }
+    if !at_most(mask, MAX_MASK) {
+        return Planned { number: 2, counts };
+    }
+    let size = 2 * mask.len();
+    if plan.len() < size {
+        return Planned { number: 11, counts };
+    }
+    zero_front(plan, size);
+    write_plan(mask, plan, &mut counts, t, 1);
+    Planned { number: 0, counts }
+}
