@@ -1,0 +1,288 @@
+-- A decode's answer and buffers, from its steps to the definitions. Assumes nothing.
+use mathlib.Core.Path.{_≡_, refl, sym, _∙_, ap, ap₂, subst}
+use mathlib.Core.Bool.{Bool, true, false, cond, not, _&&_}
+use mathlib.Core.List.{List, [], _∷_, _++_, map}
+use Prim.Native.Nat.{ℕ, zero, suc, _+_, _*_, _^_, _<_, _≤_}
+use native.Mathlib.Nat.{zero-add}
+use native.Mathlib.Nat.{zero-add}
+use native.Mathlib.Omega.{arith}
+use borrow.Author.Tests.{eq-eqb, ne-eqb, leb-true}
+use lib.Dec.{T, eqb, leb, eqb·suc-zero}
+use lib.IntN.{ℤ, pos, natAbs}
+use lib.ListN.{length, getD, replicate, List·getD-map, length-append, length-replicate}
+use Rattle.model.specs.Lists.{tabulate, over, bit, atMost}
+use Rattle.model.specs.Soft.{Soft, finite, softZero, _at_, plus, mark, wordOf}
+use lib.Pow.{pow-mono, pow-pos}
+use Rattle.model.specs.Encoding.{unfrozen, transform, payloadOf, frozenZero}
+use Rattle.model.specs.Scan.{Tree, message, start, toNode, visit, sweeps, scan, hardBit, hardWord, decided, decodeScan}
+use Rattle.model.specs.Bounds.{Small, Under, limit}
+use Rattle.model.specs.Plans as plans
+use Rattle.model.specs.Refusals.{Test, test, refusal, row-1, row-2, row-3, row-4, row-5, row-6, row-7, row-11, row-12, exponent, accepted, llrsInRange, DecodeCall, decodeNumber, decodeAnswer, decodeCycles, decodeCheck, decodeSoft, decodeHard, decodePayload, decodeWork}
+use Rattle.model.proofs.Lists.{length-tabulate, getD-tabulate, tabulate-ext, double}
+use Rattle.model.proofs.Bounds.{soft-under, cap-limit, under-mono}
+use Rattle.model.proofs.Refusals.{llrs-small}
+use Rattle.model.proofs.Theorems.{decision-bound, cycles-most}
+use Rattle.words.specs.Words.{word, softOf, write, stored, addWord, Word, Added}
+use Rattle.words.proofs.Laws.{soft-fin, soft-word, word-in}
+use Rattle.words.proofs.Store.{write-in, length-write}
+use Rattle.scan.specs.Space.{Decodable}
+use Rattle.decisions.specs.Bits.{decisionAt}
+use Rattle.decode.specs.Calls.{callOf, inputNumber, Passed, InputTests, Answered, Written, Readable, wordDecisions}
+use Rattle.decode.proofs.Bits.{write-front}
+
+-- ---- tests one list after the other
+abbrev Numbered : List Test → Type 0
+Numbered [] = Unit {0}
+Numbered (test zero b ∷ ts) = ⊥
+Numbered (test (suc n) b ∷ ts) = Numbered ts
+
+refusal-then : (ts us : List Test) → Numbered ts → refusal (ts ++ us) ≡ cond (eqb (refusal ts) 0) (refusal us) (refusal ts)
+unfolding refusal
+refusal-then [] us n = refl
+refusal-then (test zero b ∷ ts) us n = absurd n
+refusal-then (test (suc k) true ∷ ts) us n = refusal-then ts us n
+refusal-then (test (suc k) false ∷ ts) us n = rw (eqb·suc-zero k)
+
+-- ---- lengths
+length-toNode : (h : ℕ) (L l r : List Soft) → length (toNode h L l r) ≡ h + h
+unfolding toNode
+length-toNode h L l r =
+    length-append (tabulate h _) (tabulate h _) ∙ ap₂ (λ (x y : ℕ). x + y) (length-tabulate h _) (length-tabulate h _)
+
+sweeps-more : (f : Tree → Tree) (k : ℕ) (P : Tree) → sweeps f (suc k) P ≡ f (sweeps f k P)
+unfolding sweeps
+sweeps-more f zero P = refl
+sweeps-more f (suc k) P = sweeps-more f k (f P)
+
+length-visit : (t : ℕ) (P : Tree) (L : List Soft) → length (message (visit (suc t) P L)) ≡ 2 ^ suc t
+unfolding visit
+length-visit t P L = length-toNode (2 ^ t) L _ _ ∙ sym (double t)
+
+length-scan : (t : ℕ) (mask : List ℕ) (L : List Soft) (k : ℕ) → length (scan (suc t) mask L k) ≡ 2 ^ suc t
+length-scan t mask L zero = unfold scan sweeps start in length-tabulate (2 ^ suc t) _
+length-scan t mask L (suc k) =
+    unfold scan in ap (λ (P : Tree). length (message P)) (sweeps-more (λ T. visit (suc t) T L) k (start (suc t) mask)) ∙ length-visit t (sweeps (λ T. visit (suc t) T L) k (start (suc t) mask)) L
+
+pub scan-length : (t : ℕ) → (t ≡ 0 → ⊥) → (mask : List ℕ) (L : List Soft) (k : ℕ) → length (scan t mask L k) ≡ 2 ^ t
+scan-length zero n mask L k = absurd (n refl)
+scan-length (suc t) n mask L k = length-scan t mask L k
+
+pow-above : (j : ℕ) → j < 2 ^ suc j
+pow-above zero = omega arith
+pow-above (suc j) = let h : j < 2 ^ suc j = pow-above j in omega arith
+
+-- ---- lists by their places
+tabulate-map : {A B : Type 0} (f : A → B) (l : List A) (d : A) → tabulate (length l) (λ k. f (getD l k d)) ≡ map f l
+unfolding tabulate
+tabulate-map f [] d = refl
+tabulate-map f (x ∷ l) d = ap (λ xs. f x ∷ xs) (tabulate-map f l d)
+
+by-places : {A B : Type 0} (f : A → B) (l : List A) (d : A) (n : ℕ) → length l ≡ n → tabulate n (λ k. f (getD l k d)) ≡ map f l
+by-places f l d n e = ap (λ (k : ℕ). tabulate k (λ k. f (getD l k d))) (sym e) ∙ tabulate-map f l d
+
+same-places : (n : ℕ) → tabulate n (λ k. pos 0) ≡ replicate n (pos 0)
+unfolding tabulate
+same-places zero = refl
+same-places (suc n) = ap {B = List ℤ} (λ xs. pos 0 ∷ xs) (same-places n)
+
+module _ (mask plan : List ℕ) (k : ℕ) (llrs soft : List ℤ) (hard payload : List ℕ) (work : List ℤ) where
+  abbrev call : DecodeCall
+  call = callOf mask plan k llrs soft hard payload work
+
+  abbrev N : ℕ
+  N = length mask
+
+  abbrev n : ℕ
+  n = exponent (length mask)
+
+  -- the tests of room
+  abbrev roomNumber : ℕ
+  roomNumber = refusal (row-11 N (length soft) ∷ row-11 N (length hard) ∷ row-11 (unfrozen mask) (length payload) ∷ row-12 (N * (n + 3)) (length work) ∷ [])
+
+  number-split : decodeNumber call ≡ cond (eqb (inputNumber mask plan k llrs) 0) roomNumber (inputNumber mask plan k llrs)
+  unfolding decodeNumber inputNumber
+  number-split =
+      refusal-then (row-1 N ∷ row-2 mask ∷ row-3 (length llrs) N ∷ row-4 k ∷ row-5 n plan ∷ row-6 n plan mask ∷ row-7 llrs ∷ [])
+      (row-11 N (length soft) ∷ row-11 N (length hard) ∷ row-11 (unfrozen mask) (length payload) ∷ row-12 (N * (n + 3)) (length work) ∷ []) tt
+
+  pub number-input : {number : ℕ} → number ≡ inputNumber mask plan k llrs → (number ≡ 0 → ⊥) → number ≡ decodeNumber call
+  number-input e h =
+      e ∙ sym (number-split ∙ ap (λ (b : Bool). cond b roomNumber (inputNumber mask plan k llrs)) (ne-eqb (inputNumber mask plan k llrs) 0 (λ z. h (e ∙ z))))
+
+  pub number-room : {number : ℕ} → 0 ≡ inputNumber mask plan k llrs → number ≡ roomNumber → number ≡ decodeNumber call
+  number-room z e =
+      e ∙ sym (number-split ∙ ap (λ (b : Bool). cond b roomNumber (inputNumber mask plan k llrs)) (eq-eqb (inputNumber mask plan k llrs) 0 (sym z)))
+
+  -- the room tests as the code makes them, with its K and n
+  pub room-is : {cycles t count : ℕ} → Passed mask plan k llrs cycles t → count ≡ unfrozen mask
+      → refusal (row-11 N (length soft) ∷ row-11 N (length hard) ∷ row-11 count (length payload) ∷ row-12 (N * (t + 3)) (length work) ∷ []) ≡ roomNumber
+  room-is p e =
+      ap₂ (λ (x y : ℕ). refusal (row-11 N (length soft) ∷ row-11 N (length hard) ∷ row-11 x (length payload) ∷ row-12 (N * (y + 3)) (length work) ∷ [])) e (p .stage-is)
+
+  -- ---- a refused call
+  pub refused-answer : (number : ℕ) → (number ≡ 0 → ⊥) → number ≡ decodeNumber call → (r c d : ℕ) → r ≡ number → c ≡ 0 → d ≡ 0 → Answered call r c d
+  unfolding decodeCycles decodeCheck
+  refused-answer number h e r c d er ec ed =
+      let b : eqb (decodeNumber call) 0 ≡ false = ne-eqb (decodeNumber call) 0 (λ z. h (e ∙ z)) in
+      record { number-is = er ∙ e; cycles-is = ec ∙ sym (rw b); check-is = ed ∙ sym (rw b) }
+
+  pub refused-written : (number : ℕ) → (number ≡ 0 → ⊥) → number ≡ decodeNumber call → Written call soft soft hard hard payload payload work work
+  unfolding decodeSoft decodeHard decodePayload decodeWork
+  refused-written number h e =
+      let b : eqb (decodeNumber call) 0 ≡ false = ne-eqb (decodeNumber call) 0 (λ z. h (e ∙ z)) in
+      record { soft-is = sym (rw b); hard-is = sym (rw b); payload-is = sym (rw b); work-is = sym (rw b) }
+
+  -- ---- an accepted call
+  module _ (z : 0 ≡ roomNumber) where
+    passes : (number : ℕ) (b : Bool) (ts : List Test) → refusal (test (suc number) b ∷ ts) ≡ 0 → (b ≡ true) × (refusal ts ≡ 0)
+    unfolding refusal
+    passes number true ts e = (refl, e)
+    passes number false ts e = let q : ⊥ = omega arith in absurd q
+
+    pub soft-room : N ≤ length soft
+    soft-room = leb-true N (length soft) (passes 10 (leb N (length soft)) _ (sym z) .0)
+
+    after-soft : refusal (row-11 N (length hard) ∷ row-11 (unfrozen mask) (length payload) ∷ row-12 (N * (n + 3)) (length work) ∷ []) ≡ 0
+    after-soft = passes 10 (leb N (length soft)) _ (sym z) .1
+
+    pub hard-room : N ≤ length hard
+    hard-room = leb-true N (length hard) (passes 10 (leb N (length hard)) _ after-soft .0)
+
+    after-hard : refusal (row-11 (unfrozen mask) (length payload) ∷ row-12 (N * (n + 3)) (length work) ∷ []) ≡ 0
+    after-hard = passes 10 (leb N (length hard)) _ after-soft .1
+
+    pub payload-room : unfrozen mask ≤ length payload
+    payload-room = leb-true (unfrozen mask) (length payload) (passes 10 (leb (unfrozen mask) (length payload)) _ after-hard .0)
+
+    pub work-room : N * (n + 3) ≤ length work
+    work-room = leb-true (N * (n + 3)) (length work) (passes 11 (leb (N * (n + 3)) (length work)) _ (passes 10 (leb (unfrozen mask) (length payload)) _ after-hard .1) .0)
+
+    module _ {cycles t : ℕ} (p : Passed mask plan k llrs cycles t) where
+      abbrev L : List Soft
+      L = map finite llrs
+
+      abbrev S : List Soft
+      S = scan t mask (map finite llrs) k
+
+      few : N ≤ 1024
+      few = let m : 2 ^ t ≤ 1024 = pow-mono (p .low) in omega (arith, p .sized)
+
+      small : (j : ℕ) → natAbs (word llrs j) ≤ 32767
+      small j = subst (Small 32767) (List·getD-map finite llrs j (pos 0)) (at-all j)
+        where
+          at-all : (j : ℕ) → Small 32767 (map finite llrs at j)
+          at-all j = llrs-small (suc j) llrs (p .range) j (pow-above j)
+
+      -- what the soft values' run requires
+      pub decodable : Decodable plan mask llrs N t (length soft) (length work)
+      decodable = record {
+        size = p .sized;
+        low = p .low;
+        positions = refl;
+        values = p .values;
+        small = λ j _. small j;
+        allowed = p .allowed;
+        answer = soft-room;
+        room = subst (λ (m : ℕ). N * (m + 3) ≤ length work) (sym (p .stage-is)) work-room;
+      }
+
+      module _ (soft′ : List ℤ) (es : soft′ ≡ stored soft 0 N (scan t mask (map finite llrs) k)) where
+        word-at : (j : ℕ) → j < N → word soft′ j ≡ wordOf (scan t mask (map finite llrs) k at j)
+        word-at j lt =
+            ap (λ (w : List ℤ). getD w j (pos 0)) es
+            ∙ ap (λ (i : ℕ). getD (stored soft 0 N (scan t mask (map finite llrs) k)) i (pos 0)) (sym (zero-add j))
+            ∙ write-in (pos 0) soft 0 N (λ i. wordOf (scan t mask (map finite llrs) k at i)) j lt (omega (arith, soft-room))
+
+        under : (j : ℕ) → j < N → Under limit (scan t mask (map finite llrs) k at j)
+        under j lt =
+            under-mono (scan t mask (map finite llrs) k at j) (let c = cap-limit t (p .low) in omega arith)
+            (soft-under t mask (map finite llrs) (llrs-small t llrs (p .range)) k j (omega (arith, p .sized)))
+
+        soft-place : (j : ℕ) → j < N → softOf (word soft′ j) ≡ scan t mask (map finite llrs) k at j
+        soft-place j lt = ap softOf (word-at j lt) ∙ soft-word limit (scan t mask (map finite llrs) k at j) (omega arith) (under j lt)
+
+        llr-place : (j : ℕ) → softOf (word llrs j) ≡ map finite llrs at j
+        llr-place j =
+            soft-fin (word llrs j) (λ e. let f : natAbs (word llrs j) ≡ mark = ap natAbs e in omega (arith, small j))
+            ∙ sym (List·getD-map finite llrs j (pos 0))
+
+        -- the sums that the decisions form
+        pub sums : (j : ℕ) → j < N → Added (word llrs j) (word soft′ j)
+        unfolding addWord
+        sums j lt = (
+          omega (arith, small j),
+          word-in limit (plus (softOf (word llrs j)) (softOf (word soft′ j))) (omega arith)
+              (subst (Under limit) (sym (ap₂ plus (llr-place j) (soft-place j lt)))
+              (decision-bound t (p .low) mask (map finite llrs) (llrs-small t llrs (p .range)) k j (omega (arith, p .sized)))),
+        )
+
+        pub readable : Readable mask llrs soft′ N (length hard) (length payload)
+        readable = record {
+          length-allowed = λ e. p .not-zero (p .stage-is ∙ e);
+          few = few;
+          positions = refl;
+          values = omega (arith, p .values);
+          softs = omega (arith, ap length es, length-stored, soft-room);
+          bits = hard-room;
+          payload-room = payload-room;
+          sums = sums;
+        }
+          where
+            length-stored : length (stored soft 0 N (scan t mask (map finite llrs) k)) ≡ length soft
+            length-stored = length-write (pos 0) soft 0 N _
+
+        -- the hard word
+        decisions-are : wordDecisions llrs soft′ N ≡ hardWord t (map finite llrs) (scan t mask (map finite llrs) k)
+        unfolding hardWord
+        decisions-are =
+            tabulate-ext N (decisionAt llrs soft′) (λ j. hardBit (plus (map finite llrs at j) (scan t mask (map finite llrs) k at j)))
+            (λ j lt. ap hardBit (ap₂ plus (llr-place j) (soft-place j lt)))
+            ∙ ap (λ (m : ℕ). tabulate m (λ j. hardBit (plus (map finite llrs at j) (scan t mask (map finite llrs) k at j)))) (p .sized)
+
+        u-is : transform (exponent N) (wordDecisions llrs soft′ N) ≡ transform t (hardWord t (map finite llrs) (scan t mask (map finite llrs) k))
+        u-is = ap₂ transform (sym (p .stage-is)) decisions-are
+
+        -- the definition's answer in the call's exponent
+        answer-is : decodeAnswer call ≡ decodeScan t mask (map finite llrs) k
+        unfolding decodeAnswer
+        answer-is = ap (λ (m : ℕ). decodeScan m mask (map finite llrs) k) (sym (p .stage-is))
+
+        module _ (zero-is : 0 ≡ decodeNumber call) where
+          accept : eqb (decodeNumber call) 0 ≡ true
+          accept = eq-eqb (decodeNumber call) 0 (sym zero-is)
+
+          pub accepted-answer : (r c d : ℕ) → r ≡ 0 → c ≡ k * cycles → d ≡ bit (frozenZero mask (transform (exponent N) (wordDecisions llrs soft′ N))) → Answered call r c d
+          unfolding decodeCycles decodeCheck decodeScan decided
+          accepted-answer r c d er ec ed = record {
+            number-is = er ∙ zero-is;
+            cycles-is = ec ∙ ap (λ (m : ℕ). k * m) (p .cycles-is ∙ ap (λ (m : ℕ). plans.cycles plan m 1 mask) (p .stage-is)) ∙ sym (rw accept);
+            check-is = ed ∙ ap (λ (v : List ℕ). bit (frozenZero mask v)) u-is ∙ sym (rw accept (ap (λ a. a .check) answer-is));
+          }
+
+          pub accepted-written : (hard′ payload′ : List ℕ) (work′ : List ℤ)
+              → hard′ ≡ over (wordDecisions llrs soft′ N) hard
+              → payload′ ≡ over (payloadOf mask (transform (exponent N) (wordDecisions llrs soft′ N))) payload
+              → work′ ≡ write work 0 (N * (t + 3)) (λ i. pos 0)
+              → Written call soft soft′ hard hard′ payload payload′ work work′
+          unfolding decodeSoft decodeHard decodePayload decodeWork decodeScan decided
+          accepted-written hard′ payload′ work′ eh ep ew = record {
+            soft-is = es ∙ write-front (pos 0) soft N (λ i. wordOf (scan t mask (map finite llrs) k at i)) soft-room
+                ∙ ap (λ (l : List ℤ). over l soft) (by-places wordOf (scan t mask (map finite llrs) k) softZero N (scan-length t (p .not-zero) mask (map finite llrs) k ∙ sym (p .sized)))
+                ∙ sym (rw accept (ap (λ a. over (map wordOf (a .soft)) soft) answer-is));
+            hard-is = eh ∙ ap (λ (l : List ℕ). over l hard) decisions-are ∙ sym (rw accept (ap (λ a. over (a .hard) hard) answer-is));
+            payload-is = ep ∙ ap (λ (v : List ℕ). over (payloadOf mask v) payload) u-is ∙ sym (rw accept (ap (λ a. over (a .payload) payload) answer-is));
+            work-is = ew ∙ ap (λ (m : ℕ). write work 0 (N * (m + 3)) (λ i. pos 0)) (p .stage-is)
+                ∙ write-front (pos 0) work (N * (n + 3)) (λ i. pos 0) work-room
+                ∙ ap (λ (l : List ℤ). over l work) (same-places (N * (n + 3))) ∙ sym (rw accept);
+          }
+
+pub mask-few : {mask plan : List ℕ} {k : ℕ} {llrs : List ℤ} {cycles t : ℕ} → Passed mask plan k llrs cycles t → length mask ≤ 1024
+mask-few p = let m : 2 ^ _ ≤ 1024 = pow-mono (p .low) in omega (arith, p .sized)
+
+-- the cycles of one sweep are few
+pub cycles-small : {mask plan : List ℕ} {k : ℕ} {llrs : List ℤ} {cycles t : ℕ} → Passed mask plan k llrs cycles t → cycles ≤ 4096
+cycles-small {mask} {plan} {k} {llrs} {cycles} {t} p = bound t (p .not-zero) (p .low) (p .allowed) (p .cycles-is)
+  where
+    bound : (t : ℕ) → (t ≡ 0 → ⊥) → t ≤ 10 → plans.Allowed t plan mask → cycles ≡ plans.cycles plan t 1 mask → cycles ≤ 4096
+    bound zero n l A e = absurd (n refl)
+    bound (suc t) n l A e = let m : 2 ^ suc t ≤ 1024 = pow-mono l in omega (arith, cycles-most t plan mask A)

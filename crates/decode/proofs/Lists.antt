@@ -1,0 +1,58 @@
+-- Buffers whose front is overwritten, and one more element of a list. Assumes nothing.
+use mathlib.Core.Path.{_≡_, refl, sym, _∙_, ap, ap₂}
+use mathlib.Core.Bool.{Bool, true, false, _&&_}
+use mathlib.Core.List.{List, [], _∷_, _++_, append-assoc}
+use Prim.Native.Nat.{ℕ, zero, suc, _+_, _^_, _<_, _≤_}
+use native.Mathlib.Numerals.{add-one}
+use native.Mathlib.Omega.{arith}
+use lib.Dec.{leb}
+use lib.IntN.{ℤ, pos, natAbs}
+use lib.ListN.{length, getD, set, take, drop, length-append, length-drop}
+use lib.Seq.{drop-cons, drop-length, take-suc, length-take-le, set-at}
+use Rattle.model.specs.Lists.{over}
+use Rattle.model.specs.Refusals.{llrsInRange}
+
+-- one element more in front
+pub over-more : {A : Type 0} (new old : List A) (i : ℕ) (v d : A) → length new ≡ i → i < length old → set (over new old) i v ≡ over (new ++ (v ∷ [])) old
+unfolding over
+over-more {A} new old i v d e lt =
+    let len : length (new ++ (v ∷ [])) ≡ suc i = length-append new (v ∷ []) ∙ omega (arith, e) in
+    ap (λ (l : List A). set (new ++ l) i v) (ap (λ (n : ℕ). drop n old) e ∙ drop-cons old i d lt)
+    ∙ set-at new (getD old i d) (drop (suc i) old) v i e
+    ∙ sym (append-assoc new (v ∷ []) (drop (suc i) old))
+    ∙ ap (λ (n : ℕ). (new ++ (v ∷ [])) ++ drop n old) (sym len)
+
+pub length-over : {A : Type 0} (new old : List A) → length new ≤ length old → length (over new old) ≡ length old
+unfolding over
+length-over new old h = length-append new (drop (length new) old) ∙ omega (arith, h, length-drop (length new) old)
+
+pub over-none : {A : Type 0} (old : List A) → over [] old ≡ old
+unfolding over
+over-none old = refl
+
+-- the first i + 1 elements of another list
+pub over-take : {A : Type 0} (from old : List A) (i : ℕ) (d : A) → i < length from → i < length old → set (over (take i from) old) i (getD from i d) ≡ over (take (i + 1) from) old
+over-take {A} from old i d h lt =
+    over-more (take i from) old i (getD from i d) d (length-take-le i from (omega arith)) lt
+    ∙ ap (λ (l : List A). over l old) (sym (ap (λ (n : ℕ). take n from) (add-one i) ∙ take-suc from i d h))
+
+-- ---- LLRs within their range
+pub range-more : (good : Bool) (llrs : List ℤ) (i : ℕ) → i < length llrs
+    → (good && llrsInRange (drop i llrs)) ≡ ((good && leb (natAbs (getD llrs i (pos 0))) 32767) && llrsInRange (drop (i + 1) llrs))
+unfolding llrsInRange
+range-more good llrs i h = rw (add-one, drop-cons llrs i (pos 0)) (and-assoc good (leb (natAbs (getD llrs i (pos 0))) 32767) (llrsInRange (drop (suc i) llrs)))
+  where
+    and-assoc : (a b c : Bool) → (a && (b && c)) ≡ ((a && b) && c)
+    and-assoc true b c = refl
+    and-assoc false b c = refl
+
+pub range-end : (good : Bool) (llrs : List ℤ) (i : ℕ) → length llrs ≤ i → i ≤ length llrs → (good && llrsInRange (drop i llrs)) ≡ good
+unfolding llrsInRange
+range-end good llrs i l m = ap (λ (z : List ℤ). good && llrsInRange z) (ap (λ (n : ℕ). drop n llrs) (same l m) ∙ drop-length llrs) ∙ and-true good
+  where
+    same : length llrs ≤ i → i ≤ length llrs → i ≡ length llrs
+    same l m = omega arith
+
+    and-true : (b : Bool) → (b && true) ≡ b
+    and-true true = refl
+    and-true false = refl
