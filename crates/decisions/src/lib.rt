@@ -18,7 +18,9 @@ pub fn decide(llrs: &[i16], soft: &[i32], hard: &mut [u8], n: usize)
 {
     let mut k = 0;
     while k < n {
-        let sum = add_words(llrs[k] as i32, soft[k]);
+        let llr = llrs[k] as i32;
+        let value = soft[k];
+        let sum = add_words(llr, value);
         hard[k] = (sum < 0) as u8;
         k += 1;
     }

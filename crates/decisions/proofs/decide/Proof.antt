@@ -25,26 +25,26 @@ abbrev μ-loop : tie.MeasureT-loop
 loop-holds : tie.Need-loop-holds Inv-loop μ-loop
 loop-holds c = (omega arith, store-none 0 _ _ _, refl)
 
-mul-add-words : tie.Need-mul-add-words Inv-loop μ-loop
-mul-add-words c = search needs
+mul-llr : tie.Need-mul-llr Inv-loop μ-loop
+mul-llr c = search needs
 
-shared-slice-copy-out-add-words : tie.Need-shared-slice-copy-out-add-words Inv-loop μ-loop
-shared-slice-copy-out-add-words c = search needs
+shared-slice-copy-out-llr : tie.Need-shared-slice-copy-out-llr Inv-loop μ-loop
+shared-slice-copy-out-llr c = search needs
 
-cast-add-words : tie.Need-cast-add-words Inv-loop μ-loop
-cast-add-words c = wide16 (word (c .before .before .before .before .args .llrs .now) (c .before .before .loop .k)) (c .add-words-arg .given)
+cast-llr : tie.Need-cast-llr Inv-loop μ-loop
+cast-llr c = wide16 (word (c .before .before .before .before .args .llrs .now) (c .before .before .loop .k)) (c .llr .given)
 
-mul-add-words-2 : tie.Need-mul-add-words-2 Inv-loop μ-loop
-mul-add-words-2 c = search needs
+mul-value : tie.Need-mul-value Inv-loop μ-loop
+mul-value c = search needs
 
-shared-slice-copy-out-add-words-2 : tie.Need-shared-slice-copy-out-add-words-2 Inv-loop μ-loop
-shared-slice-copy-out-add-words-2 c = search needs
+shared-slice-copy-out-value : tie.Need-shared-slice-copy-out-value Inv-loop μ-loop
+shared-slice-copy-out-value c = search needs
 
 add-words-requires : tie.Need-add-words-requires Inv-loop μ-loop
 add-words-requires c κs =
     let turn = c .before .before in
     let at-loop = turn .before in
-    rw (back-wide (c .before .add-words-arg .given), back (c .add-words-arg2 .given)) (at-loop .before .before .pre .1 (at-loop .loop .k) (turn .loop-test .taken))
+    rw (back-wide (c .before .llr .given), back (c .value .given)) (at-loop .before .before .pre .1 (at-loop .loop .k) (turn .loop-test .taken))
 
 cast-hard : tie.Need-cast-hard Inv-loop μ-loop
 cast-hard c = tt
@@ -64,7 +64,7 @@ loop-again c =
     let a = at-loop .before .before .args in
     let k = at-loop .loop .k in
     let sum : toZ w32 (ofZ w32 (c .add-words .result)) ≡ addWord (word (a .llrs .now) k) (word (a .soft .now) k) =
-    back (c .add-words .ok) ∙ c .add-words .ensures ∙ ap₂ addWord (back-wide (c .before .before .add-words-arg .given)) (back (c .before .add-words-arg2 .given)) in (
+    back (c .add-words .ok) ∙ c .add-words .ensures ∙ ap₂ addWord (back-wide (c .before .before .llr .given)) (back (c .before .value .given)) in (
       omega arith,
       store-at-zero (a .hard .now) (at-loop .loop .hard) k _ (decisionAt (a .llrs .now) (a .soft .now)) (at-loop .loop .inv .1)
           (ap boolByte (ltZ-zero (toZ w32 (ofZ w32 (c .add-words .result))) ∙ ap negative sum) ∙ decision (word (a .llrs .now) k) (word (a .soft .now) k)),
@@ -87,11 +87,11 @@ decide-spec =
     Inv-loop
     μ-loop
     loop-holds
-    mul-add-words
-    shared-slice-copy-out-add-words
-    cast-add-words
-    mul-add-words-2
-    shared-slice-copy-out-add-words-2
+    mul-llr
+    shared-slice-copy-out-llr
+    cast-llr
+    mul-value
+    shared-slice-copy-out-value
     add-words-requires
     cast-hard
     slice-write-hard
