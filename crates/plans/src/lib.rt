@@ -1,7 +1,9 @@
 // The planner, the check of a plan, and the cycles of one sweep.
 // A recursion goes down the tree with a node's stage t, its number p, and its positions of the mask: 2p and 2p + 1 are its children.
 use inputs::at_most;
+use inputs::both;
 use inputs::exponent_of;
+use inputs::mask_bytes;
 use kinds::Kind;
 use kinds::kind_of;
 ghost use mathlib.Core.Path.{_≡_};
@@ -18,17 +20,8 @@ ghost use Rattle.kinds.specs.Runs.{kindNamed};
 ghost use Rattle.plans.specs.Nodes.{Place, Node, Span, part, clearBelow, Costs, rowOf, written, counted, Free};
 ghost use Rattle.plans.specs.Faults.{faultNumber, faultCycles};
 
-// The largest mask byte.
-const MAX_MASK: u8 = 1;
-
 // The number of kinds.
 const KINDS: usize = 6;
-
-fn both(a: bool, b: bool) -> bool
-    ensures { λ r. ⌜ r ≡ (a && b) ⌝ }
-{
-    if a { b } else { false }
-}
 
 // Whether no node below node p, of stage t, is cut. The nodes of a level below p lie side by side in the plan.
 fn no_cut_below(plan: &[u8], t: usize, p: usize) -> bool
@@ -185,7 +178,7 @@ pub fn check_plan(mask: &[u8], plan: &[u8]) -> Checked
             cycles: 0,
         };
     }
-    if !at_most(mask, MAX_MASK) {
+    if !mask_bytes(mask) {
         return Checked {
             number: 2,
             cycles: 0,
@@ -265,7 +258,7 @@ pub fn plan_mask(mask: &[u8], plan: &mut [u8]) -> Planned
     if t == 0 {
         return Planned { number: 1, counts };
     }
-    if !at_most(mask, MAX_MASK) {
+    if !mask_bytes(mask) {
         return Planned { number: 2, counts };
     }
     let size = 2 * mask.len();
