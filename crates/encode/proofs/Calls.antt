@@ -8,7 +8,7 @@ use lib.Dec.{T, eqb·suc-zero}
 use lib.ListN.{length, take, drop}
 use lib.Seq.{take-at, drop-at}
 use Rattle.model.specs.Lists.{atMost, over}
-use Rattle.model.specs.Encoding.{unfrozen, place, transform, encode}
+use Rattle.model.specs.Encoding.{maxMask, unfrozen, place, transform, encode}
 use Rattle.model.specs.Refusals.{refusal, exponent, encodeNumber, encodeWord}
 use Rattle.model.proofs.Transform.{length-transform}
 use Rattle.model.proofs.Payload.{length-place, place-bits}
@@ -32,11 +32,11 @@ module _ (mask payload : List ℕ) (room : ℕ) where
   number-1 a = simp (eq-eqb (exponent (length mask)) 0 a)
 
   module _ (a : exponent (length mask) ≡ 0 → ⊥) where
-    pub number-2 : atMost 1 mask ≡ false → encodeNumber mask payload room ≡ 2
+    pub number-2 : atMost maxMask mask ≡ false → encodeNumber mask payload room ≡ 2
     unfolding encodeNumber refusal
     number-2 b = simp (ne-eqb (exponent (length mask)) 0 a, b)
 
-    module _ (b : atMost 1 mask ≡ true) where
+    module _ (b : atMost maxMask mask ≡ true) where
       pub number-3 : (length payload ≡ unfrozen mask → ⊥) → encodeNumber mask payload room ≡ 3
       unfolding encodeNumber refusal
       number-3 c = simp (ne-eqb (exponent (length mask)) 0 a, b, ne-eqb (length payload) (unfrozen mask) c)

@@ -130,41 +130,35 @@ fn is_plan(plan: &[u8], size: usize) -> bool
     }
 }
 
-// Tests 5 and 6 of a plan: the number, and the cycles of one sweep if it is 0.
-pub struct Fault {
+// What a check of a plan answers: the number, and the cycles of one sweep if it is 0.
+pub struct Checked {
     pub number: u32,
     pub cycles: u32,
 }
 
-// Tests a plan for a mask of 2 ^ t bytes. The decoder shares it.
-pub fn fault_of(mask: &[u8], plan: &[u8], t: usize) -> Fault
+// Tests 5 and 6 of a plan, for a mask of 2 ^ t bytes. The decoder shares them.
+pub fn fault_of(mask: &[u8], plan: &[u8], t: usize) -> Checked
     requires { ⌜ (length (now mask) ≡ 2 ^ t) × (t ≤ 10) ⌝ }
     ensures { λ r. ⌜ (r .number ≡ faultNumber t (now (mask .entry)) (now (plan .entry))) × (r .cycles ≡ faultCycles t (now (mask .entry)) (now (plan .entry))) ⌝ }
 {
     if !is_plan(plan, 2 * mask.len()) {
-        return Fault {
+        return Checked {
             number: 5,
             cycles: 0,
         };
     }
     let c = cost_at(mask, plan, t, 1, 0, mask.len());
     if c.well {
-        Fault {
+        Checked {
             number: 0,
             cycles: c.cycles,
         }
     } else {
-        Fault {
+        Checked {
             number: 6,
             cycles: 0,
         }
     }
-}
-
-// What a check of a plan answers: the number, and the cycles of one sweep.
-pub struct Checked {
-    pub number: u32,
-    pub cycles: u32,
 }
 
 // Checks a plan for a mask.
@@ -184,11 +178,7 @@ pub fn check_plan(mask: &[u8], plan: &[u8]) -> Checked
             cycles: 0,
         };
     }
-    let f = fault_of(mask, plan, t);
-    Checked {
-        number: f.number,
-        cycles: f.cycles,
-    }
+    fault_of(mask, plan, t)
 }
 
 // Sets the first n bytes to 0.

@@ -8,7 +8,7 @@ use borrow.Author.Tests.{not-true, not-false}
 use lib.ListN.{length, take}
 use lib.Seq.{length-take-le}
 use Rattle.model.specs.Lists.{atMost, over}
-use Rattle.model.specs.Encoding.{unfrozen, encode}
+use Rattle.model.specs.Encoding.{maxMask, unfrozen, encode}
 use Rattle.model.specs.Refusals.{exponent, encodeNumber}
 use Rattle.model.proofs.Lists.{true-T}
 use Rattle.model.proofs.Refusals.{exponent-power}
@@ -33,7 +33,7 @@ start4 c = start3 (c .before .before)
 ok1 : (c : tie.Else1) → exponent (length (start1 c .args .mask .now)) ≡ 0 → ⊥
 ok1 c e = c .if1 .left (c .before .exponent-of .ensures ∙ e)
 
-ok2 : (c : tie.Else2) → atMost 1 (start2 c .args .mask .now) ≡ true
+ok2 : (c : tie.Else2) → atMost maxMask (start2 c .args .mask .now) ≡ true
 ok2 c = sym (c .before .mask-bytes .ensures) ∙ not-false (c .before .mask-bytes .result) (c .if2 .left)
 
 ok3 : (c : tie.Else3) → length (start3 c .args .payload .now) ≡ unfrozen (start3 c .args .mask .now)
