@@ -5,7 +5,8 @@ use native.Mathlib.Omega.{arith}
 use borrow.Author.Needs.{needs}
 use lib.ListN.{length, getD, drop}
 use Rattle.model.specs.Encoding.{unfrozen, isUnfrozen}
-use Rattle.inputs.proofs.Folds.{unfrozen-more, unfrozen-end, bit-small}
+use Rattle.model.proofs.Lists.{bit-small}
+use Rattle.inputs.proofs.Folds.{unfrozen-more, unfrozen-end}
 use Rattle.inputs.proofs.unfrozen_of.Statement.{statement}
 use Rattle.inputs.proofs.unfrozen_of.Tie as tie
 
@@ -49,7 +50,7 @@ returns : tie.Need-returns Inv-loop μ-loop
 returns c =
     let l = c .before in
     let a = l .before .before .args in
-    sym (l .loop .inv .2 ∙ unfrozen-end (l .loop .k) (a .mask .now) (l .loop .i) (search needs) (search needs))
+    sym (l .loop .inv .2 ∙ unfrozen-end (l .loop .k) (a .mask .now) (l .loop .i) (search needs))
 
 pub unfrozen-of-spec : {M : Type 1} → statement M
 unfrozen-of-spec =
