@@ -5,7 +5,7 @@ use native.Mathlib.Decide.{decLe}
 use native.Mathlib.Omega.{arith}
 use mathlib.Core.Path.{_≡_, refl, sym, ap, ap₂, _∙_}
 use mathlib.Core.Bool.{Bool, true, false, not, _&&_}
-use mathlib.Core.List.{List, [], _∷_, _++_}
+use mathlib.Core.List.{List}
 use lib.Dec.{T, eqb, leb}
 use lib.ListN.{length, take, drop, getD, drop-of-length-le, List·getD-eq-default}
 use lib.Pow.{pow-pos}
@@ -13,7 +13,7 @@ use lib.Seq.{drop-cons, drop-drop, take-add}
 use Rattle.model.specs.Lists.{atMost}
 use Rattle.model.specs.Kinds.{kindOf, isSome}
 use Rattle.model.specs.Plans.{isCut, noCut, wellCut}
-use Rattle.model.proofs.Lists.{and-assoc, and-true, at-most-at, at-most-append}
+use Rattle.model.proofs.Lists.{and-true, at-most-at, at-most-append}
 use Rattle.plans.specs.Nodes.{clearBelow}
 use Rattle.plans.proofs.Parts.{twice}
 

@@ -12,11 +12,11 @@ use lib.ListN.{length, getD, take, drop, length-drop}
 use lib.Seq.{length-take-le}
 use Rattle.model.specs.Lists.{tabulate}
 use Rattle.model.specs.Soft.{Soft, certain, softZero, _at_, box, plus, wordOf}
-use Rattle.model.specs.Scan.{Tree, leaf}
+use Rattle.model.specs.Scan.{leaf}
 use Rattle.model.specs.Kinds.{isSome, Kind, rate-0, rate-1, REP, SPC, type-I, type-III, kindOf, shortcut, others}
-use Rattle.model.specs.Plans.{isRate01, isCut, wellCut, walk, putKind, put}
+use Rattle.model.specs.Plans.{isRate01, isCut, wellCut, putKind, put}
 use Rattle.model.specs.Bounds.{limit, Small, Under, cap}
-use Rattle.model.proofs.Lists.{T-true, double, tabulate-ext, getD-tabulate, and-l, and-r}
+use Rattle.model.proofs.Lists.{T-true, double, tabulate-ext, getD-tabulate, and-l}
 use Rattle.model.proofs.PlannedWalk.{walk-cut}
 use Rattle.model.proofs.Paths.{wellCut-cut}
 use Rattle.model.proofs.Bounds.{shortcut-under, under-mono}

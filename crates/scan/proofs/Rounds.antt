@@ -16,7 +16,7 @@ use Rattle.model.specs.Soft.{Soft, finite, certain, softZero, _at_, mark, wordO
 use Rattle.model.specs.Scan.{Tree, leaf, message, leafValue, start, sweeps, scan}
 use Rattle.model.specs.Plans.{Stays, wellCut, walk, planned}
 use Rattle.model.specs.Bounds.{Small, SmallAll, Held}
-use Rattle.model.proofs.Lists.{double, tabulate-ext, getD-tabulate}
+use Rattle.model.proofs.Lists.{double, tabulate-ext}
 use Rattle.model.proofs.Paths.{allowed-length, allowed-cuts}
 use Rattle.model.proofs.Theorems.{soft-same}
 use Rattle.model.proofs.PlannedWalk.{walk-stays, stays-same, stays-then}

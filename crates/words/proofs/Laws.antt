@@ -1,4 +1,4 @@
--- Laws of box and sum on words.
+-- Laws of box and sum on words. Assumes nothing.
 use mathlib.Core.Path.{_≡_, refl, sym, ap, _∙_, subst}
 use mathlib.Core.Logic.{_⊎_, inl, inr, ⊎-elim}
 use mathlib.Core.Bool.{Bool, true, false, cond}
@@ -13,7 +13,7 @@ use Rattle.model.specs.Bounds.{Small, Under}
 use Rattle.model.proofs.Lists.{getD-tabulate}
 use Rattle.words.specs.Words.{Word, xor, softOf, boxWord, addWord, word, soft}
 use Rattle.model.specs.Soft.{mark, wordOf, Soft, finite, certain, softZero, _at_, box, boxℤ, plus, signed, negative, differ}
-use Rattle.words.proofs.Signed.{abs-neg, ltZ-zero}
+use Rattle.words.proofs.Signed.{ltZ-zero}
 
 -- box of two words as numbers, with the sign as the machine finds it
 abbrev pub boxZ : ℤ → ℤ → ℤ
@@ -82,10 +82,6 @@ addWord-fin a b ha hb = rw (soft-fin a ha, soft-fin b hb)
 pub add-by : (t : Bool) (a b : ℤ) → (t ≡ true → b ≡ pos mark) → (t ≡ false → b ≡ pos mark → ⊥) → natAbs a < mark → b +ℤ cond t (pos 0) a ≡ addWord a b
 add-by true a b y n h = ap (λ (z : ℤ). z +ℤ pos 0) (y refl) ∙ sym (ap (addWord a) (y refl) ∙ addWord-r a)
 add-by false a b y n h = +ℤ-comm b a ∙ sym (addWord-fin a b (λ e. let f : natAbs a ≡ mark = ap natAbs e in omega arith) (n refl))
-
-pub abs-signed : (s : Bool) (n : ℕ) → natAbs (signed s n) ≡ n
-abs-signed true n = abs-neg (pos n)
-abs-signed false n = refl
 
 pub signed-is : (s : Bool) (n : ℕ) → cond s (negℤ (pos n)) (pos n) ≡ signed s n
 signed-is true n = refl

@@ -1,4 +1,4 @@
--- Signed words: what the machine reads back from bits, and bounds of negations and sums, over ℕ.
+-- Signed words: what the machine reads back from bits, and bounds of negations and sums, over ℕ. Assumes nothing.
 use mathlib.Core.Path.{_≡_, refl, sym, ap, _∙_, subst}
 use mathlib.Core.Bool.{Bool, true, false, cond, not, Bool·beq}
 use Prim.Native.Nat.{ℕ, zero, suc, _^_, _<_, min, zero-le}
@@ -8,7 +8,7 @@ use lib.Signed.{mag, ltZ}
 use lib.Dec.{T, ltb}
 use borrow.Author.Tests.{ltb-true, ltb-false, le-ltb}
 use mir.Syntax.{w16, w32}
-use mir.Val.{SFits, ofZ, toZ, boolByte}
+use mir.Val.{SFits, ofZ, toZ}
 use mir.Facts.{toZ-ofZ}
 use Rattle.words.specs.Words.{Word}
 use Rattle.model.specs.Soft.{mark, negative, signed}
@@ -67,11 +67,6 @@ back16 h = toZ-ofZ (record { sfits = h })
 -- the cast of an i16 to an i32
 pub wide16 : (z : ℤ) → mag z < 2 ^ 15 → SFits w32 (toZ w16 (ofZ w16 z))
 wide16 z h = rw (back16 h) (let g : mag z < 2 ^ 31 = omega arith in record { sfits = g })
-
--- a bool as a byte
-pub bit-byte : (t : Bool) → boolByte t ≡ cond t 1 0
-bit-byte true = refl
-bit-byte false = refl
 
 pub back-wide : {z : ℤ} → mag z < 2 ^ 15 → toZ w32 (ofZ w32 (toZ w16 (ofZ w16 z))) ≡ z
 back-wide {z} h = toZ-ofZ (wide16 z h) ∙ back16 h
