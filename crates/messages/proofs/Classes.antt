@@ -11,10 +11,11 @@ use lib.ListN.{length, getD, drop, drop-of-length-le}
 use lib.Seq.{drop-cons, drop-drop}
 use lib.Dec.{eqb}
 use borrow.Author.Tests.{eqb-true, eqb-false}
-use Rattle.model.proofs.Algebra.{signed-zero}
+use Rattle.model.proofs.Algebra.{signed-zero, differ-comm, differ-assoc}
 use Rattle.model.proofs.Bounds.{abs-plus}
-use Rattle.model.specs.Soft.{negative, signed, mark}
+use Rattle.model.specs.Soft.{negative, signed, differ, mark}
 use Rattle.words.specs.Words.{xor, Word}
+use Rattle.words.proofs.Laws.{differ-xor}
 use Rattle.messages.specs.Sums.{without, strided, sumZ, sizes, least, next, parity, isOdd}
 
 -- ---- a class of places
@@ -72,24 +73,18 @@ sizes-strided d (suc c) (x ∷ xs) = omega (arith, sizes-strided d c xs)
 -- ---- signs and sizes
 
 pub xor-assoc : (a b c : Bool) → xor (xor a b) c ≡ xor a (xor b c)
-xor-assoc true true true = refl
-xor-assoc true true false = refl
-xor-assoc true false true = refl
-xor-assoc true false false = refl
-xor-assoc false true true = refl
-xor-assoc false true false = refl
-xor-assoc false false true = refl
-xor-assoc false false false = refl
+xor-assoc a b c =
+    sym (ap (λ (x : Bool). differ x c) (differ-xor a b) ∙ differ-xor (xor a b) c)
+    ∙ differ-assoc a b c ∙ ap (differ a) (differ-xor b c) ∙ differ-xor a (xor b c)
 
 pub xor-comm : (a b : Bool) → xor a b ≡ xor b a
-xor-comm true true = refl
-xor-comm true false = refl
-xor-comm false true = refl
-xor-comm false false = refl
+xor-comm a b = sym (differ-xor a b) ∙ differ-comm a b ∙ differ-xor b a
+
+pub xor-none : (b : Bool) → xor false b ≡ b
+xor-none b = sym (differ-xor false b)
 
 pub xor-false : (a : Bool) → xor a false ≡ a
-xor-false true = refl
-xor-false false = refl
+xor-false a = xor-comm a false ∙ xor-none a
 
 xor-twice : (a b : Bool) → b ≡ xor (xor a b) a
 xor-twice true true = refl
@@ -197,14 +192,6 @@ module _ (d i : ℕ) (l : List ℤ) (h : i < length l) where
   unfolding sumZ
   sum-step = ap sumZ (strided-step d i l (pos 0) h)
 
-  pub least-step : least (strided d 0 (drop i l)) ≡ min (natAbs (at l i)) (least (strided d 0 (drop (i + (d + 1)) l)))
-  unfolding least
-  least-step = ap least (strided-step d i l (pos 0) h)
-
-  pub parity-step : parity (strided d 0 (drop i l)) ≡ xor (negative (at l i)) (parity (strided d 0 (drop (i + (d + 1)) l)))
-  unfolding parity
-  parity-step = ap parity (strided-step d i l (pos 0) h)
-
 pub strided-end : {A : Type 0} (d i : ℕ) (l : List A) → length l ≤ i → strided d 0 (drop i l) ≡ []
 unfolding strided
 strided-end d i l h = ap (strided d 0) (drop-of-length-le l h)
@@ -230,7 +217,7 @@ pub gath-none : (l : List ℤ) → Gath mark mark false l l
 gath-none l =
     let a = least-mark l in
     let b = next-mark l in
-    (omega arith, omega arith, omega arith, omega arith, xor-comm false (parity l) ∙ xor-false (parity l))
+    (omega arith, omega arith, omega arith, omega arith, xor-none (parity l))
 
 xor-turn : (s n p : Bool) → xor (xor s n) p ≡ xor n (xor s p)
 xor-turn s n p = ap (λ (t : Bool). xor t p) (xor-comm s n) ∙ xor-assoc n s p

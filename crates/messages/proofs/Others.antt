@@ -22,7 +22,7 @@ use Rattle.words.specs.Words.{xor, Word, word}
 use Rattle.messages.specs.Sums.{without, strided, sumZ, sizes, least, next, parity, leaveOut}
 use Rattle.model.proofs.Bounds.{abs-signed}
 use Rattle.words.proofs.Laws.{boxZ, boxℤ-is, box-mark-l, box-mark-r}
-use Rattle.messages.proofs.Classes.{sign-min, least-mark, next-mark, least-others, parity-others}
+use Rattle.messages.proofs.Classes.{xor-none, sign-min, least-mark, next-mark, least-others, parity-others}
 
 -- ---- classes of places
 mod-two : (j : ℕ) → (j % 2 ≡ 0) ⊎ (j % 2 ≡ 1)
@@ -140,10 +140,6 @@ unfolding masked strided next
 next-masked d c [] = refl
 next-masked d zero (x ∷ xs) = ap₂ (λ (a b : ℕ). min a (max (natAbs x) b)) (next-masked d d xs) (least-masked d d xs)
 next-masked d (suc c) (x ∷ xs) = omega (arith, next-masked d c xs, least-masked d c xs, least-mark (strided d c xs), next-mark (strided d c xs))
-
-xor-none : (b : Bool) → xor false b ≡ b
-xor-none true = refl
-xor-none false = refl
 
 parity-masked : (d c : ℕ) (l : List ℤ) → parity (masked d c l) ≡ parity (strided d c l)
 unfolding masked strided parity

@@ -38,14 +38,6 @@ pub abs-no : (z : ℤ) → negative z ≡ false → z ≡ pos (natAbs z)
 abs-no (pos n) e = refl
 abs-no (negsuc n) e = absurd (subst T e tt)
 
--- the smaller of two sizes
-pub min-pos : (m n : ℕ) → cond (ltb m n) (pos m) (pos n) ≡ pos (min m n)
-min-pos m n = go (ltb m n) refl
-  where
-    go : (t : Bool) → ltb m n ≡ t → cond t (pos m) (pos n) ≡ pos (min m n)
-    go true e = ap pos (omega (arith, ltb-true m n e))
-    go false e = ap pos (omega (arith, ltb-false m n e))
-
 -- the test `z == 2147483647`, which is of the bits
 pub mark-yes : (z : ℤ) → SFits w32 z → ofZ w32 z ≡ mark → z ≡ pos mark
 mark-yes (pos n) f e = ap pos e
@@ -53,9 +45,6 @@ mark-yes (negsuc n) f e = absurd (omega (arith, f .sfits))
 
 pub mark-no : (z : ℤ) → (ofZ w32 z ≡ mark → ⊥) → z ≡ pos mark → ⊥
 mark-no z h e = h (ap (ofZ w32) e)
-
-pub min-of : (x y : ℤ) (m n : ℕ) → x ≡ pos m → y ≡ pos n → cond (ltZ x y) x y ≡ pos (min m n)
-min-of x y m n p q = rw (p, q) (min-pos m n)
 
 -- what is read back from the bits of a number that fits: of an element's `.given` and of a call's `.ok`
 pub back : {z : ℤ} → mag z < 2 ^ 31 → toZ w32 (ofZ w32 z) ≡ z
