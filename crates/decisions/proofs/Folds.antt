@@ -1,7 +1,7 @@
 -- One more position, for the loops that read a payload and check the frozen bits. Assumes nothing.
 use mathlib.Core.Path.{_≡_, refl, sym, _∙_, ap, ap₂}
 use mathlib.Core.Bool.{Bool, true, false, cond, _&&_}
-use mathlib.Core.List.{List, [], _∷_, _++_, append-assoc}
+use mathlib.Core.List.{List, [], _∷_, _++_, append-assoc, append-nil}
 use Prim.Native.Nat.{ℕ, zero, suc, _+_, _<_, _≤_, max}
 use native.Mathlib.Nat.{zero-add}
 use native.Mathlib.Numerals.{add-one}
@@ -9,8 +9,8 @@ use native.Mathlib.Omega.{arith}
 use borrow.Author.Tests.{eq-eqb, ne-eqb}
 use lib.Dec.{eqb}
 use lib.IntN.{ℤ}
-use lib.ListN.{length, getD, set, take, drop, length-set, take-append-drop}
-use lib.Seq.{drop-cons, drop-length, drop-drop, getD-drop, take-suc-set, drop-set-lt, length-take-le}
+use lib.ListN.{length, getD, set, take, drop, length-set, take-append-drop, drop-of-length-le}
+use lib.Seq.{drop-cons, drop-drop, take-suc-set, drop-set-lt, length-take-le}
 use Rattle.model.specs.Lists.{bit, over}
 use mir.Val.{boolByte}
 use Rattle.model.specs.Soft.{Soft, finite, certain, wordOf, negative, plus}
@@ -18,6 +18,8 @@ use Rattle.words.specs.Words.{softOf, write, addWord}
 use Rattle.words.proofs.Store.{store-more}
 use Rattle.model.specs.Scan.{hardBit}
 use Rattle.model.specs.Encoding.{isUnfrozen, unfrozen, payloadOf, frozenZero}
+use Rattle.model.proofs.Lists.{and-assoc, and-true, first-left}
+use Rattle.inputs.proofs.Folds.{unfrozen-more}
 
 pub bit-bool : (b : Bool) → boolByte b ≡ bit b
 bit-bool true = refl
@@ -36,23 +38,6 @@ decision a b = bit-word (plus (softOf a) (softOf b))
 pub store-at-zero : {A : Type 0} (w₀ w : List A) (k : ℕ) (v : A) (f : ℕ → A) → w ≡ write w₀ 0 k f → v ≡ f k → set w k v ≡ write w₀ 0 (k + 1) f
 store-at-zero w₀ w k v f e q = ap (λ (i : ℕ). set w i v) (sym (zero-add k)) ∙ store-more v w₀ w 0 k v f e q
 
--- past the last position
-ended : {A : Type 0} (s : List A) (i : ℕ) → length s ≤ i → i ≤ length s → drop i s ≡ []
-ended s i l m = ap (λ (n : ℕ). drop n s) (same l m) ∙ drop-length s
-  where
-    same : length s ≤ i → i ≤ length s → i ≡ length s
-    same l m = omega arith
-
-drop-one : (u : List ℕ) (i : ℕ) → drop 1 (drop i u) ≡ drop (i + 1) u
-drop-one u i = drop-drop 1 i u
-
-first : (u : List ℕ) (i : ℕ) → getD (drop i u) 0 0 ≡ getD u i 0
-first u i = getD-drop i u 0 0 ∙ ap (λ (n : ℕ). getD u n 0) (let e : i + 0 ≡ i = omega arith in e)
-
-append-nil : (l : List ℕ) → l ++ [] ≡ l
-append-nil [] = refl
-append-nil (x ∷ l) = ap {B = List ℕ} (λ xs. x ∷ xs) (append-nil l)
-
 -- ---- the payload: j of its bits are read off the first i positions
 pub record Read (mask u p₀ p : List ℕ) (i j : ℕ) : Type 0 where
   pub place : i ≤ length mask
@@ -65,20 +50,16 @@ pub read-none : (mask u p : List ℕ) → Read mask u p p 0 0
 read-none mask u p = record { place = omega arith; long = refl; left = zero-add (unfrozen mask); read = refl; tail = refl }
 
 module _ (mask u p₀ p : List ℕ) (i j : ℕ) (r : Read mask u p₀ p i j) (lt : i < length mask) where
-  unfrozen-at : unfrozen (drop i mask) ≡ bit (isUnfrozen (getD mask i 0)) + unfrozen (drop (i + 1) mask)
-  unfolding unfrozen
-  unfrozen-at = rw (add-one, drop-cons mask i 0 lt)
-
   payload-at : payloadOf (drop i mask) (drop i u)
       ≡ cond (isUnfrozen (getD mask i 0)) (getD u i 0 ∷ payloadOf (drop (i + 1) mask) (drop (i + 1) u)) (payloadOf (drop (i + 1) mask) (drop (i + 1) u))
   unfolding payloadOf
   payload-at =
       ap (λ (m : List ℕ). payloadOf m (drop i u)) (drop-cons mask i 0 lt ∙ ap (λ (n : ℕ). getD mask i 0 ∷ drop n mask) (sym (add-one i)))
-      ∙ ap₂ (λ (x : ℕ) (v : List ℕ). cond (isUnfrozen (getD mask i 0)) (x ∷ payloadOf (drop (i + 1) mask) v) (payloadOf (drop (i + 1) mask) v)) (first u i) (drop-one u i)
+      ∙ ap₂ (λ (x : ℕ) (v : List ℕ). cond (isUnfrozen (getD mask i 0)) (x ∷ payloadOf (drop (i + 1) mask) v) (payloadOf (drop (i + 1) mask) v)) (first-left u i 0) (drop-drop 1 i u)
 
   -- there is room for the bit of an unfrozen position
   pub room : getD mask i 0 ≡ 0 → unfrozen mask ≤ length p₀ → j < length p
-  room e h = omega (arith, r .left, r .long, unfrozen-at, ap bit (eq-eqb (getD mask i 0) 0 e))
+  room e h = omega (arith, r .left, r .long, unfrozen-more j mask i lt, ap bit (eq-eqb (getD mask i 0) 0 e))
 
   pub read-unfrozen : getD mask i 0 ≡ 0 → unfrozen mask ≤ length p₀ → Read mask u p₀ (set p j (getD u i 0)) (i + 1) (j + 1)
   read-unfrozen e h =
@@ -88,7 +69,7 @@ module _ (mask u p₀ p : List ℕ) (i j : ℕ) (r : Read mask u p₀ p i j) (lt
       record {
         place = omega arith;
         long = length-set p j (getD u i 0) ∙ r .long;
-        left = omega (arith, r .left, unfrozen-at, ap bit b);
+        left = omega (arith, r .left, unfrozen-more j mask i lt, ap bit b);
         read = r .read ∙ ap (λ (l : List ℕ). take j p ++ l) (payload-at ∙ ap (λ (x : Bool). cond x (getD u i 0 ∷ rest) rest) b)
             ∙ sym (append-assoc (take j p) (getD u i 0 ∷ []) rest)
             ∙ ap (λ (l : List ℕ). l ++ rest) (sym (ap (λ (n : ℕ). take n (set p j (getD u i 0))) (add-one j) ∙ take-suc-set p j (getD u i 0) fits));
@@ -103,7 +84,7 @@ module _ (mask u p₀ p : List ℕ) (i j : ℕ) (r : Read mask u p₀ p i j) (lt
       record {
         place = omega arith;
         long = r .long;
-        left = omega (arith, r .left, unfrozen-at, ap bit b);
+        left = omega (arith, r .left, unfrozen-more j mask i lt, ap bit b);
         read = r .read ∙ ap (λ (l : List ℕ). take j p ++ l) (payload-at ∙ ap (λ (x : Bool). cond x (getD u i 0 ∷ rest) rest) b);
         tail = r .tail;
       }
@@ -111,7 +92,7 @@ module _ (mask u p₀ p : List ℕ) (i j : ℕ) (r : Read mask u p₀ p i j) (lt
 pub read-all : (mask u p₀ p : List ℕ) (i j : ℕ) → Read mask u p₀ p i j → length mask ≤ i → unfrozen mask ≤ length p₀ → p ≡ over (payloadOf mask u) p₀
 unfolding over payloadOf unfrozen
 read-all mask u p₀ p i j r h room =
-    let none : drop i mask ≡ [] = ended mask i h (r .place) in
+    let none : drop i mask ≡ [] = drop-of-length-le mask h in
     let is : payloadOf mask u ≡ take j p =
     r .read ∙ ap (λ (m : List ℕ). take j p ++ payloadOf m (drop i u)) none ∙ append-nil (take j p) in
     let count : j ≡ unfrozen mask = omega (arith, r .left, ap unfrozen none) in
@@ -123,10 +104,6 @@ max-zero : (a b : ℕ) → eqb (max a b) 0 ≡ (eqb a 0 && eqb b 0)
 max-zero zero zero = refl
 max-zero zero (suc b) = ne-eqb (max 0 (suc b)) 0 (λ e. omega arith) ∙ sym (ne-eqb (suc b) 0 (λ e. omega arith))
 max-zero (suc a) b = ne-eqb (max (suc a) b) 0 (λ e. omega arith) ∙ sym (ap (λ (x : Bool). x && eqb b 0) (ne-eqb (suc a) 0 (λ e. omega arith)))
-
-and-assoc : (a b c : Bool) → (a && (b && c)) ≡ ((a && b) && c)
-and-assoc true b c = refl
-and-assoc false b c = refl
 
 pick-zero : (x : Bool) (b : ℕ) → cond x true (eqb b 0) ≡ eqb (cond x 0 b) 0
 pick-zero true b = refl
@@ -140,15 +117,11 @@ check-more mask u i most lt =
     let bits : Bool = eqb (cond (isUnfrozen (getD mask i 0)) 0 (getD u i 0)) 0 in
     let rest : Bool = frozenZero (drop (i + 1) mask) (drop (i + 1) u) in
     ap (λ (m : List ℕ). eqb most 0 && frozenZero m (drop i u)) (drop-cons mask i 0 lt ∙ ap (λ (n : ℕ). getD mask i 0 ∷ drop n mask) (sym (add-one i)))
-    ∙ ap₂ (λ (x : ℕ) (v : List ℕ). eqb most 0 && (cond (isUnfrozen (getD mask i 0)) true (eqb x 0) && frozenZero (drop (i + 1) mask) v)) (first u i) (drop-one u i)
+    ∙ ap₂ (λ (x : ℕ) (v : List ℕ). eqb most 0 && (cond (isUnfrozen (getD mask i 0)) true (eqb x 0) && frozenZero (drop (i + 1) mask) v)) (first-left u i 0) (drop-drop 1 i u)
     ∙ ap (λ (x : Bool). eqb most 0 && (x && rest)) (pick-zero (isUnfrozen (getD mask i 0)) (getD u i 0))
-    ∙ and-assoc (eqb most 0) bits rest
+    ∙ sym (and-assoc (eqb most 0) bits rest)
     ∙ ap (λ (x : Bool). x && rest) (sym (max-zero most (cond (isUnfrozen (getD mask i 0)) 0 (getD u i 0))))
 
-pub check-end : (mask u : List ℕ) (i most : ℕ) → length mask ≤ i → i ≤ length mask → (eqb most 0 && frozenZero (drop i mask) (drop i u)) ≡ eqb most 0
+pub check-end : (mask u : List ℕ) (i most : ℕ) → length mask ≤ i → (eqb most 0 && frozenZero (drop i mask) (drop i u)) ≡ eqb most 0
 unfolding frozenZero
-check-end mask u i most h l = ap (λ (m : List ℕ). eqb most 0 && frozenZero m (drop i u)) (ended mask i h l) ∙ and-true (eqb most 0)
-  where
-    and-true : (b : Bool) → (b && true) ≡ b
-    and-true true = refl
-    and-true false = refl
+check-end mask u i most h = ap (λ (m : List ℕ). eqb most 0 && frozenZero m (drop i u)) (drop-of-length-le mask h) ∙ and-true (eqb most 0)

@@ -2,7 +2,7 @@
 use Prim.Native.Nat.{ℕ}
 use mathlib.Core.List.{List}
 use lib.IntN.{ℤ}
-use Rattle.model.specs.Soft.{finite, plus}
+use Rattle.model.specs.Soft.{plus}
 use Rattle.model.specs.Scan.{hardBit}
 use Rattle.words.specs.Words.{word, softOf}
 

@@ -4,7 +4,7 @@ use words::add_words;
 ghost use mathlib.Core.Path.{_≡_};
 ghost use mathlib.Core.Bool.{cond};
 ghost use Prim.Native.Nat.{ℕ, _≤_, _<_};
-ghost use lib.ListN.{length, getD};
+ghost use lib.ListN.{length};
 ghost use Rattle.model.specs.Lists.{bit, over};
 ghost use Rattle.model.specs.Encoding.{isUnfrozen, unfrozen, payloadOf, frozenZero};
 ghost use Rattle.words.specs.Words.{word, write, Added};

@@ -132,13 +132,13 @@ module _ (u : List ℕ) where
   transform-low n e = agree n (lowBits u) u (λ k h. ap (λ (x : ℕ). x % 2) (low-at k (rw e h)) ∙ mod-mod (getD u k 0) 2)
 
 -- ---- a turn of the loop over the blocks: the bits before `from` are done, and `left` blocks from there on are not
+less : (l : ℕ) → l ≡ suc l - 1
+less l = omega arith
+
 pub one-more : (left from size n : ℕ) → 0 < left → from + left * size ≡ n → (from + size ≤ n) × (from + size + (left - 1) * size ≡ n)
 one-more zero from size n z e = let x : ⊥ = omega arith in absurd x
 one-more (suc l) from size n z e = go (suc l - 1) (less l) (suc-mul l size)
   where
-    less : (l : ℕ) → l ≡ suc l - 1
-    less l = omega arith
-
     go : (m : ℕ) → l ≡ m → suc l * size ≡ l * size + size → (from + size ≤ n) × (from + size + m * size ≡ n)
     go m p q = let r : m * size ≡ l * size = ap (λ (x : ℕ). x * size) (sym p) in (omega arith, omega arith)
 
@@ -170,9 +170,6 @@ add-halves-more h (suc l) from k u v z e f n p =
 
     back : drop (from + 2 * h) (putMid from k u v) ≡ R
     back = ap (drop (from + 2 * h)) (sym (append-assoc P v R)) ∙ drop-at (P ++ v) R (from + 2 * h) both
-
-    less : (l : ℕ) → l ≡ suc l - 1
-    less l = omega arith
 
 pub add-halves-end : (h left from : ℕ) (u : List ℕ) → left ≤ 0 → take from u ++ addHalves h left (drop from u) ≡ u
 unfolding addHalves

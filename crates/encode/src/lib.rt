@@ -3,7 +3,7 @@ ghost use mathlib.Core.Path.{_≡_};
 ghost use mathlib.Core.Bool.{true, cond};
 ghost use Prim.Native.Nat.{_+_, _*_, _^_, _%_, _≤_, _<_};
 ghost use lib.ListN.{length, getD};
-ghost use Rattle.model.specs.Lists.{over, bit};
+ghost use Rattle.model.specs.Lists.{over};
 ghost use Rattle.model.specs.Encoding.{isUnfrozen, unfrozen, place, transform};
 ghost use Rattle.model.specs.Refusals.{encodeNumber, encodeWord};
 ghost use Rattle.encode.specs.Answers.{numberOf, transformNumber, transformBytes};
@@ -102,13 +102,6 @@ pub fn transform(bits: &mut [u8]) -> Encoded
     Encoded::Done
 }
 
-// How many payload bits a position takes: one if it is unfrozen.
-fn takes(byte: u8) -> usize
-    ensures { λ r. ⌜ r ≡ bit (isUnfrozen byte) ⌝ }
-{
-    if byte == 0 { 1 } else { 0 }
-}
-
 // The bit that goes to a position: the next payload bit if it is unfrozen, and else 0.
 fn bit_for(byte: u8, payload: &[u8], next: usize) -> u8
     requires { ⌜ (isUnfrozen byte ≡ true → next < length (now payload)) ⌝ }
@@ -127,7 +120,7 @@ fn place_bits(mask: &[u8], payload: &[u8], word: &mut [u8])
     while i < mask.len() {
         let byte = mask[i];
         word[i] = bit_for(byte, payload, next);
-        next += takes(byte);
+        next += inputs::unfrozen_bit(byte);
         i += 1;
     }
 }
@@ -142,7 +135,7 @@ pub fn encode(mask: &[u8], payload: &[u8], word: &mut [u8]) -> Encoded
     if n == 0 {
         return Encoded::BadLength;
     }
-    if !inputs::at_most(mask, 1) {
+    if !inputs::mask_bytes(mask) {
         return Encoded::BadMask;
     }
     if payload.len() != inputs::unfrozen_of(mask) {

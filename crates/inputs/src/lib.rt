@@ -1,9 +1,20 @@
 // Tests of inputs that several calls share.
 ghost use mathlib.Core.Path.{_≡_};
+ghost use mathlib.Core.Bool.{_&&_};
 ghost use Prim.Native.Nat.{max};
 ghost use Rattle.model.specs.Lists.{atMost, bit};
-ghost use Rattle.model.specs.Encoding.{unfrozen, isUnfrozen};
+ghost use Rattle.model.specs.Encoding.{maxMask, unfrozen, isUnfrozen};
 ghost use Rattle.model.specs.Refusals.{exponent};
+
+// The largest mask byte.
+const MAX_MASK: u8 = 1;
+
+// Whether both tests are passed.
+pub fn both(a: bool, b: bool) -> bool
+    ensures { λ r. ⌜ r ≡ (a && b) ⌝ }
+{
+    if a { b } else { false }
+}
 
 // The exponent of a power of two from 2 to 1024, and 0 for any other number.
 pub fn exponent_of(n: usize) -> usize
@@ -41,8 +52,15 @@ pub fn at_most(bytes: &[u8], top: u8) -> bool
     most <= top
 }
 
+// Whether no byte of a mask is too large.
+pub fn mask_bytes(mask: &[u8]) -> bool
+    ensures { λ r. ⌜ r ≡ atMost maxMask (now (mask .entry)) ⌝ }
+{
+    at_most(mask, MAX_MASK)
+}
+
 // 1 for an unfrozen position, 0 for a frozen one.
-fn counted(byte: u8) -> usize
+pub fn unfrozen_bit(byte: u8) -> usize
     ensures { λ r. ⌜ r ≡ bit (isUnfrozen byte) ⌝ }
 {
     if byte == 0 { 1 } else { 0 }
@@ -55,7 +73,7 @@ pub fn unfrozen_of(mask: &[u8]) -> usize
     let mut k: usize = 0;
     let mut i = 0;
     while i < mask.len() {
-        k += counted(mask[i]);
+        k += unfrozen_bit(mask[i]);
         i += 1;
     }
     k

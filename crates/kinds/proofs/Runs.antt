@@ -8,13 +8,13 @@ use mathlib.Core.Logic.{_⊎_, inl, inr}
 use mathlib.Core.Bool.{Bool, true, false, _&&_}
 use mathlib.Core.Option.{Option, none, some}
 use mathlib.Core.List.{List, [], _∷_, _++_, append-nil}
-use borrow.Author.Tests.{leb-true, eqb-true}
+use borrow.Author.Tests.{leb-true}
 use lib.Dec.{T, eqb, leb, eqb·zero-suc, eqb·suc-zero, eqb·suc-suc}
 use lib.ListN.{replicate, length, take, drop, getD, length-drop, length-replicate, take-append-drop, drop-of-length-le, List·getD-append, getD-replicate}
-use lib.Seq.{drop-cons, take-all, length-take-le, getD-append-add}
+use lib.Seq.{drop-cons, length-take-le, getD-append-add}
 use Rattle.model.specs.Lists.{same}
 use Rattle.model.specs.Kinds.{Kind, rate-0, rate-1, REP, SPC, type-I, type-III, order, leastSize, pattern, onlyFirst, fits, firstOf, kindOf, isSome}
-use Rattle.model.proofs.Lists.{eqb-same, and-l, and-r, true-T, T-true}
+use Rattle.model.proofs.Lists.{eqb-same, true-T, and-assoc, and-true, same→eq}
 use Rattle.model.proofs.Shortcuts.{fits-facts, firstOf-fits}
 use Rattle.kinds.specs.Runs.{allAre, front, fitsRun, kindAt, Ends}
 
@@ -23,23 +23,6 @@ same-refl : (a : List ℕ) → same a a ≡ true
 unfolding same
 same-refl [] = refl
 same-refl (x ∷ xs) = rw (eqb-same x, same-refl xs)
-
-pub same-true : (a b : List ℕ) → same a b ≡ true → a ≡ b
-unfolding same
-same-true [] [] e = refl
-same-true [] (y ∷ ys) e = absurd (true-T false e)
-same-true (x ∷ xs) [] e = absurd (true-T false e)
-same-true (x ∷ xs) (y ∷ ys) e =
-    let t : T (eqb x y && same xs ys) = true-T (eqb x y && same xs ys) e in
-    ap₂ (λ x xs. x ∷ xs) (eqb-true x y (T-true (eqb x y) (and-l (eqb x y) (same xs ys) t))) (same-true xs ys (T-true (same xs ys) (and-r (eqb x y) (same xs ys) t)))
-
-pub and-assoc : (a b c : Bool) → ((a && b) && c) ≡ (a && (b && c))
-and-assoc true b c = refl
-and-assoc false b c = refl
-
-pub and-true : (a : Bool) → (a && true) ≡ a
-and-true true = refl
-and-true false = refl
 
 same-append : (a b c d : List ℕ) → length a ≡ length c → same (a ++ b) (c ++ d) ≡ (same a c && same b d)
 unfolding same
@@ -137,7 +120,7 @@ module _ (mask : List ℕ) {r : ℕ} (E : Ends mask r) where
       ap (kindAt (length mask)) (E .run (s .f) (s .inside) (s .near) (s .is)) ∙ sym (kind-run (length mask) (s .f) (s .inside) mask (s .is))
 
   pub of-run : same mask (onlyFirst r (length mask)) ≡ true → kindAt (length mask) r ≡ kindOf (length mask) mask
-  of-run e = sym (kind-run (length mask) r (E .inside) mask (same-true mask (onlyFirst r (length mask)) e))
+  of-run e = sym (kind-run (length mask) r (E .inside) mask (same→eq mask (onlyFirst r (length mask)) (true-T (same mask (onlyFirst r (length mask))) e)))
 
   pub no-run : same mask (onlyFirst r (length mask)) ≡ false → none ≡ kindOf (length mask) mask
   no-run e = go (kindOf (length mask) mask) refl
@@ -204,7 +187,3 @@ alike-more byte alike part i h =
 pub alike-end : (byte : ℕ) (alike : Bool) (part : List ℕ) (i : ℕ) → length part ≤ i → (alike && allAre byte (drop i part)) ≡ alike
 unfolding allAre
 alike-end byte alike part i h = rw (drop-of-length-le part h) (and-true alike)
-
--- ---- a part from a to the end
-pub to-end : (l : List ℕ) (a : ℕ) → take (length l - a) (drop a l) ≡ drop a l
-to-end l a = take-all (length l - a) (drop a l) (omega (arith, length-drop a l))

@@ -1,4 +1,5 @@
 // The kind of a node, from its part of the mask. Each kind's pattern is a run of frozen positions with unfrozen ones after it.
+use inputs::both;
 ghost use mathlib.Core.Path.{_≡_};
 ghost use mathlib.Core.Bool.{cond, _&&_};
 ghost use Prim.Native.Nat.{_-_, _≤_};
@@ -22,12 +23,6 @@ pub enum Kind {
     TypeI,
     TypeIII,
     NoKind,
-}
-
-fn both(a: bool, b: bool) -> bool
-    ensures { λ r. ⌜ r ≡ (a && b) ⌝ }
-{
-    if a { b } else { false }
 }
 
 // Whether every byte of a part is the given one.
@@ -89,7 +84,7 @@ fn all_but(m: usize, s: usize) -> usize
 fn in_row(m: usize, f: usize, least: usize, run: usize) -> bool
     ensures { λ r. ⌜ r ≡ (leb least m && eqb f run) ⌝ }
 {
-    if least <= m { f == run } else { false }
+    both(least <= m, f == run)
 }
 
 // The upper of two kinds that a node may fit: k where it fits, otherwise the lower one.

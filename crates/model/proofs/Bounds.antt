@@ -193,7 +193,7 @@ held-walk plan (suc t) p mask = go (isCut plan p) refl (held-walk plan t (2 * p)
   where
     go : (b : Bool) → isCut plan p ≡ b → HeldStep plan t (2 * p) (take (2 ^ t) mask) → HeldStep plan t (2 * p + 1) (drop (2 ^ t) mask) → HeldStep plan (suc t) p mask
     go true e hl hr = λ B P L w S H. (
-      subst (UnderAll (suc t) (cap (suc t) B)) (ap message (sym (walk-cut plan t p mask P L e))) (put-under (suc t) B mask P L (wellCut-cut plan t p mask e w) S),
+      subst (UnderAll (suc t) (cap (suc t) B)) (ap message (sym (walk-cut plan (suc t) p mask P L e))) (put-under (suc t) B mask P L (wellCut-cut plan (suc t) p mask e w) S),
       λ q. absurd (absurd-bool (isCut plan p) e q),
     )
     go false e hl hr = held-through plan t p mask e hl hr

@@ -30,9 +30,10 @@ leaf-rate01 mask k = go (kindOf 1 mask) refl k
     go none e t = absurd t
     go (some x) e t = small x (fits-facts 1 mask x (unfold kindOf in firstOf-fits (fits 1 mask) order x e) .0)
 
-pub cycles-cut : (plan : List ℕ) (t p : ℕ) (mask : List ℕ) → isCut plan p ≡ true → cycles plan (suc t) p mask ≡ cutCycles (kindOf (2 ^ suc t) mask)
+pub cycles-cut : (plan : List ℕ) (t p : ℕ) (mask : List ℕ) → isCut plan p ≡ true → cycles plan t p mask ≡ cutCycles (kindOf (2 ^ t) mask)
 unfolding cycles
-cycles-cut plan t p mask e = rw e
+cycles-cut plan zero p mask e = refl
+cycles-cut plan (suc t) p mask e = rw e
 
 -- what a node costs, with the edgeCycles that the node above it pays
 abbrev pub cost : List ℕ → ℕ → ℕ → List ℕ → ℕ
@@ -59,7 +60,7 @@ abbrev pub price : Option Kind → ℕ
 price o = cond (isRate01 o) 0 2 + cutCycles o
 
 pub cost-cut : (plan : List ℕ) (t p : ℕ) (mask : List ℕ) → isCut plan p ≡ true → cost plan (suc t) p mask ≡ price (kindOf (2 ^ suc t) mask)
-cost-cut plan t p mask e = ap₂ (λ (a b : ℕ). a + b) (edge-cut plan (2 ^ suc t) p mask e) (cycles-cut plan t p mask e)
+cost-cut plan t p mask e = ap₂ (λ (a b : ℕ). a + b) (edge-cut plan (2 ^ suc t) p mask e) (cycles-cut plan (suc t) p mask e)
 
 pub cost-through : (plan : List ℕ) (t p : ℕ) (mask : List ℕ) → isCut plan p ≡ false
     → cost plan (suc t) p mask ≡ 4 + (cost plan t (2 * p) (take (2 ^ t) mask) + cost plan t (2 * p + 1) (drop (2 ^ t) mask))
@@ -105,7 +106,7 @@ module _ (plan : List ℕ) where
           → (T (wellCut plan t (2 * p + 1) (drop (2 ^ t) mask)) → cost plan t (2 * p + 1) (drop (2 ^ t) mask) + 4 ≤ 4 * 2 ^ t)
           → cost plan (suc t) p mask + 4 ≤ 4 * 2 ^ suc t
       go true e il ir =
-          omega (arith, cost-cut plan t p mask e, price-bound (2 ^ suc t) mask (wellCut-cut plan t p mask e w))
+          omega (arith, cost-cut plan t p mask e, price-bound (2 ^ suc t) mask (wellCut-cut plan (suc t) p mask e w))
       go false e il ir =
           let l : cost plan t (2 * p) (take (2 ^ t) mask) + 4 ≤ 4 * 2 ^ t = il (well-l plan t p mask e w) in
           let r : cost plan t (2 * p + 1) (drop (2 ^ t) mask) + 4 ≤ 4 * 2 ^ t = ir (well-r plan t p mask e w) in
@@ -117,9 +118,9 @@ module _ (plan : List ℕ) where
     where
       go : (b : Bool) → isCut plan p ≡ b → cycles plan (suc t) p mask ≤ 4 * 2 ^ suc t - 6
       go true e =
-          let h : cutCycles (kindOf (2 ^ suc t) mask) ≤ 2 = price-bound (2 ^ suc t) mask (wellCut-cut plan t p mask e w) .1 in
+          let h : cutCycles (kindOf (2 ^ suc t) mask) ≤ 2 = price-bound (2 ^ suc t) mask (wellCut-cut plan (suc t) p mask e w) .1 in
           let o : 0 < 2 ^ t = pow-pos t in
-          rw (cycles-cut plan t p mask e) (omega arith)
+          rw (cycles-cut plan (suc t) p mask e) (omega arith)
       go false e =
           let c : cost plan (suc t) p mask + 4 ≤ 4 * 2 ^ suc t = cost-bound (suc t) p mask w in
           let d : edgeCycles plan (2 ^ suc t) p mask ≡ 2 = edge-through plan (2 ^ suc t) p mask e in

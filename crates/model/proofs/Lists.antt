@@ -1,16 +1,17 @@
--- Laws of lists made by a formula, and of totals. Assumes nothing.
+-- Laws of tests, of lists and those made by a formula, and of totals. Assumes nothing.
 use mathlib.Core.Path.{_≡_, refl, sym, _∙_, ap, ap₂, subst}
-use mathlib.Core.Bool.{Bool, true, false, cond, _&&_}
+use mathlib.Core.Bool.{Bool, true, false, cond, not, _&&_}
 use mathlib.Core.List.{List, [], _∷_, _++_}
 use Prim.Native.Nat.{ℕ, zero, suc, _+_, _^_, _<_, _≤_, _-_, zero-le, suc-le-suc}
 use native.Mathlib.Nat.{zero-add, add-zero, suc-add, add-suc, not-suc-le-zero, le-of-suc-le-suc}
 use native.Mathlib.Omega.{arith}
 use borrow.Author.Tests.{le-leb}
 use lib.Dec.{T, eqb, leb, leb→le, eqb→eq, eqb-refl, eqb·suc-suc, eqb·suc-zero, eqb·zero-suc}
-use lib.ListN.{length, getD, take, drop, replicate, List·getD-append}
-use lib.Seq.{getD-append-add}
-use native.Mathlib.Decide.{decLt}
-use Rattle.model.specs.Lists.{tabulate, total, every, atMost}
+use lib.ListN.{length, getD, take, drop, replicate, length-drop, List·getD-append}
+use lib.Pow.{pow-lt}
+use lib.Seq.{getD-append-add, getD-drop, take-all}
+use native.Mathlib.Decide.{decLe, decLt}
+use Rattle.model.specs.Lists.{tabulate, total, every, same, atMost, bit}
 
 pub double : (t : ℕ) → 2 ^ suc t ≡ 2 ^ t + 2 ^ t
 double t = omega arith
@@ -104,6 +105,22 @@ pub and-T : (a b : Bool) → T a → T b → T (a && b)
 and-T true b x y = y
 and-T false b x y = x
 
+pub and-assoc : (a b c : Bool) → ((a && b) && c) ≡ (a && (b && c))
+and-assoc true b c = refl
+and-assoc false b c = refl
+
+pub and-true : (b : Bool) → (b && true) ≡ b
+and-true true = refl
+and-true false = refl
+
+pub not-bit : (b : Bool) → T (not b) → bit b ≡ 0
+not-bit true t = absurd t
+not-bit false t = refl
+
+pub bit-small : (b : Bool) → bit b ≤ 1
+bit-small true = omega arith
+bit-small false = omega arith
+
 pub T-ext : (a b : Bool) → (T a → T b) → (T b → T a) → a ≡ b
 T-ext true true f g = refl
 T-ext true false f g = absurd (f tt)
@@ -140,11 +157,10 @@ at-most-drop m zero xs a = a
 at-most-drop m (suc n) [] a = tt
 at-most-drop m (suc n) (x ∷ xs) a = at-most-drop m n xs (and-r (leb x m) (atMost m xs) a)
 
-pub at-most-append : (m : ℕ) (xs ys : List ℕ) → T (atMost m xs) → T (atMost m ys) → T (atMost m (xs ++ ys))
+pub at-most-append : (m : ℕ) (xs ys : List ℕ) → atMost m (xs ++ ys) ≡ (atMost m xs && atMost m ys)
 unfolding atMost
-at-most-append m [] ys a b = b
-at-most-append m (x ∷ xs) ys a b =
-    and-T (leb x m) (atMost m (xs ++ ys)) (and-l (leb x m) (atMost m xs) a) (at-most-append m xs ys (and-r (leb x m) (atMost m xs) a) b)
+at-most-append m [] ys = refl
+at-most-append m (x ∷ xs) ys = rw (at-most-append m xs ys) (sym (and-assoc (leb x m) (atMost m xs) (atMost m ys)))
 
 pub at-most-replicate : (m n x : ℕ) → x ≤ m → T (atMost m (replicate n x))
 unfolding atMost
@@ -166,6 +182,28 @@ eqb-apart m n h = go (eqb m n) refl
     go : (b : Bool) → eqb m n ≡ b → eqb m n ≡ false
     go true e = absurd (h (eqb→eq m n (subst T (sym e) tt)))
     go false e = e
+
+pub same→eq : (a b : List ℕ) → T (same a b) → a ≡ b
+unfolding same
+same→eq [] [] t = refl
+same→eq [] (y ∷ ys) t = absurd t
+same→eq (x ∷ xs) [] t = absurd t
+same→eq (x ∷ xs) (y ∷ ys) t = ap₂ (λ x xs. x ∷ xs) (eqb→eq x y (and-l (eqb x y) (same xs ys) t)) (same→eq xs ys (and-r (eqb x y) (same xs ys) t))
+
+-- ---- what is left of a list from a place on
+module _ {A : Type 0} (l : List A) (i : ℕ) where
+  pub first-left : (d : A) → getD (drop i l) 0 d ≡ getD l i d
+  first-left d = getD-drop i l 0 d ∙ ap (λ (n : ℕ). getD l n d) (add-zero i)
+
+  pub take-left : take (length l - i) (drop i l) ≡ drop i l
+  take-left = take-all (length l - i) (drop i l) (omega (arith, length-drop i l))
+
+pub le-of-pow : (a t : ℕ) → 2 ^ a ≤ 2 ^ t → a ≤ t
+le-of-pow a t h = go (decLe a t)
+  where
+    go : Dec (a ≤ t) → a ≤ t
+    go (yes l) = l
+    go (no n) = let m : 2 ^ t < 2 ^ a = pow-lt (omega arith) in let z : ⊥ = omega arith in absurd z
 
 -- ---- totals over a commutative monoid
 pub record Monoid {A : Type 0} (op : A → A → A) (e : A) : Type 0 where

@@ -36,9 +36,10 @@ cut-message t mask F P L k S = go (kindOf (2 ^ t) mask) refl k
     go (some x) e k = kind-visit t mask x F L e S ∙ sym (message-put (shortcut x (2 ^ t) L) P)
 
 pub walk-cut : (plan : List ℕ) (t p : ℕ) (mask : List ℕ) (P : Tree) (L : List Soft) → isCut plan p ≡ true
-    → walk plan (suc t) p mask P L ≡ putKind (kindOf (2 ^ suc t) mask) (2 ^ suc t) L P
+    → walk plan t p mask P L ≡ putKind (kindOf (2 ^ t) mask) (2 ^ t) L P
 unfolding walk
-walk-cut plan t p mask P L e = rw e
+walk-cut plan zero p mask P L e = refl
+walk-cut plan (suc t) p mask P L e = rw e
 
 -- what a walk does at a node that is not cut, with the visits of the two children
 abbrev pub descend : (Tree → List Soft → Tree) → (Tree → List Soft → Tree) → ℕ → Tree → List Soft → Tree
@@ -81,7 +82,7 @@ keeps-through plan t p mask kl kr e F P L w S A =
 
 keeps-cut : (plan : List ℕ) (t p : ℕ) (mask : List ℕ) → isCut plan p ≡ true → Keeps plan (suc t) p mask
 keeps-cut plan t p mask e F P L w S A =
-    (cut-message (suc t) mask F P L (wellCut-cut plan t p mask e w) S ∙ ap message (sym (walk-cut plan t p mask P L e)), λ q. absurd (absurd-bool (isCut plan p) e q))
+    (cut-message (suc t) mask F P L (wellCut-cut plan (suc t) p mask e w) S ∙ ap message (sym (walk-cut plan (suc t) p mask P L e)), λ q. absurd (absurd-bool (isCut plan p) e q))
 
 pub walk-agrees : (plan : List ℕ) (t p : ℕ) (mask : List ℕ) → Keeps plan t p mask
 unfolding visit walk wellCut
@@ -122,7 +123,7 @@ walk-stays plan (suc t) p mask P L = go (isCut plan p) refl (walk-stays plan t (
     go : (b : Bool) → isCut plan p ≡ b → StayStep plan t (2 * p) (take (2 ^ t) mask) → StayStep plan t (2 * p + 1) (drop (2 ^ t) mask)
         → Stays plan (suc t) p P (walk plan (suc t) p mask P L)
     go true e sl sr =
-        let w : walk plan (suc t) p mask P L ≡ putKind (kindOf (2 ^ suc t) mask) (2 ^ suc t) L P = walk-cut plan t p mask P L e in
+        let w : walk plan (suc t) p mask P L ≡ putKind (kindOf (2 ^ suc t) mask) (2 ^ suc t) L P = walk-cut plan (suc t) p mask P L e in
         let o : Option Kind = kindOf (2 ^ suc t) mask in
         (λ _. (ap left w ∙ put-left o (2 ^ suc t) L P, ap right w ∙ put-right o (2 ^ suc t) L P), λ q. absurd (absurd-bool (isCut plan p) e q))
     go false e sl sr =

@@ -18,16 +18,16 @@ use Rattle.model.specs.Encoding.{maxMask, Mask}
 use Rattle.model.specs.Plans.{isCut, noCut, wellCut, Allowed, cycles, cutsBelow, cutAt, levels, plannerPlan}
 use Rattle.model.proofs.Paths.{wellCut-cut, well-l, well-r, noCut-below, allow, allowed-length, allowed-bytes, allowed-first}
 use Rattle.model.proofs.Cycles.{cost, price-le, cycles-cut, cycles-through, cost-leaf, cost-cut, cost-through}
-use Rattle.model.proofs.Lists.{double, length-tabulate, getD-tabulate, halves, only, T-true, true-T, absurd-bool, and-l, and-r, and-T, at-most-at, at-most-take, at-most-drop, at-most-append, at-most-tabulate}
+use Rattle.model.proofs.Lists.{double, length-tabulate, getD-tabulate, halves, only, T-true, true-T, absurd-bool, and-l, and-r, and-T, at-most-at, at-most-take, at-most-drop, at-most-append, at-most-tabulate, not-bit, bit-small}
 
 -- ---- places of the heap: d levels below node p, place i
 pub idx-root : (p : ℕ) → p * 2 ^ 0 + 0 ≡ p
 idx-root p = omega arith
 
-idx-l : (p d i : ℕ) → p * 2 ^ suc d + i ≡ (2 * p) * 2 ^ d + i
+pub idx-l : (p d i : ℕ) → p * 2 ^ suc d + i ≡ (2 * p) * 2 ^ d + i
 idx-l p d i = rw (double d) (omega arith)
 
-idx-r : (p d i : ℕ) → p * 2 ^ suc d + (i + 2 ^ d) ≡ (2 * p + 1) * 2 ^ d + i
+pub idx-r : (p d i : ℕ) → p * 2 ^ suc d + (i + 2 ^ d) ≡ (2 * p + 1) * 2 ^ d + i
 idx-r p d i = rw (double d) (omega arith)
 
 -- ---- the bytes of a plan, from a node down, are the planner's
@@ -58,15 +58,15 @@ clear-noCut plan (suc t) p C =
     (clear-noCut plan t (2 * p) (below-l plan (λ d i. false) t p C))
     (clear-noCut plan t (2 * p + 1) (below-r plan (λ d i. false) t p C)))
 
-cutAt-some : (t d i : ℕ) (mask : List ℕ) → isSome (kindOf (2 ^ suc t) mask) ≡ true → cutAt (suc t) (suc d) i mask ≡ false
+pub cutAt-some : (t d i : ℕ) (mask : List ℕ) → isSome (kindOf (2 ^ suc t) mask) ≡ true → cutAt (suc t) (suc d) i mask ≡ false
 unfolding cutAt
 cutAt-some t d i mask e = rw e
 
-cutAt-l : (t d i : ℕ) (mask : List ℕ) → isSome (kindOf (2 ^ suc t) mask) ≡ false → i < 2 ^ d → cutAt (suc t) (suc d) i mask ≡ cutAt t d i (take (2 ^ t) mask)
+pub cutAt-l : (t d i : ℕ) (mask : List ℕ) → isSome (kindOf (2 ^ suc t) mask) ≡ false → i < 2 ^ d → cutAt (suc t) (suc d) i mask ≡ cutAt t d i (take (2 ^ t) mask)
 unfolding cutAt
 cutAt-l t d i mask e l = rw (e, lt-ltb i (2 ^ d) l)
 
-cutAt-r : (t d i : ℕ) (mask : List ℕ) → isSome (kindOf (2 ^ suc t) mask) ≡ false → cutAt (suc t) (suc d) (i + 2 ^ d) mask ≡ cutAt t d i (drop (2 ^ t) mask)
+pub cutAt-r : (t d i : ℕ) (mask : List ℕ) → isSome (kindOf (2 ^ suc t) mask) ≡ false → cutAt (suc t) (suc d) (i + 2 ^ d) mask ≡ cutAt t d i (drop (2 ^ t) mask)
 unfolding cutAt
 cutAt-r t d i mask e = rw (e, le-ltb (i + 2 ^ d) (2 ^ d) (omega arith)) (ap (λ (n : ℕ). cutAt t d n (drop (2 ^ t) mask)) s)
   where
@@ -180,10 +180,6 @@ chosen-wellCut plan (suc t) p mask M C =
     go false e il ir =
         rw (C .1 e .0) (and-T (wellCut plan t (2 * p) (take (2 ^ t) mask)) (wellCut plan t (2 * p + 1) (drop (2 ^ t) mask)) (il (C .1 e .1)) (ir (C .1 e .2)))
 
-pub bit-small : (b : Bool) → bit b ≤ 1
-bit-small true = omega arith
-bit-small false = omega arith
-
 levels-bytes : (n : ℕ) (mask : List ℕ) (m : ℕ) → T (atMost 1 (levels n mask m))
 unfolding levels atMost
 levels-bytes n mask zero = two (cutAt n 0 0 mask)
@@ -192,8 +188,10 @@ levels-bytes n mask zero = two (cutAt n 0 0 mask)
     two true = tt
     two false = tt
 levels-bytes n mask (suc m) =
-    at-most-append 1 (levels n mask m) (tabulate (2 ^ suc m) (λ i. bit (cutAt n (suc m) i mask))) (levels-bytes n mask m)
-    (at-most-tabulate 1 (2 ^ suc m) (λ i. bit (cutAt n (suc m) i mask)) (λ i. bit-small (cutAt n (suc m) i mask)))
+    let row : List ℕ = tabulate (2 ^ suc m) (λ i. bit (cutAt n (suc m) i mask)) in
+    rw (at-most-append 1 (levels n mask m) row)
+    (and-T (atMost 1 (levels n mask m)) (atMost 1 row) (levels-bytes n mask m)
+    (at-most-tabulate 1 (2 ^ suc m) (λ i. bit (cutAt n (suc m) i mask)) (λ i. bit-small (cutAt n (suc m) i mask))))
 
 levels-first : (n : ℕ) (mask : List ℕ) (m : ℕ) → getD (levels n mask m) 0 0 ≡ 0
 unfolding levels
@@ -203,10 +201,14 @@ levels-first n mask (suc m) =
     (rw (length-levels n mask m) (pow-pos (suc m)))
     ∙ levels-first n mask m
 
+pub planner-length : (n : ℕ) (mask : List ℕ) → length (plannerPlan n mask) ≡ 2 * 2 ^ n
+unfolding plannerPlan
+planner-length n mask = length-levels n mask n ∙ omega arith
+
 -- the planner's plan is allowed
 pub planner-allowed : (n : ℕ) (mask : List ℕ) → Mask n mask → Allowed n (plannerPlan n mask) mask
 planner-allowed n mask M =
-    allow n (plannerPlan n mask) mask (unfold plannerPlan in length-levels n mask n ∙ omega arith) (unfold plannerPlan in levels-bytes n mask n)
+    allow n (plannerPlan n mask) mask (planner-length n mask) (unfold plannerPlan in levels-bytes n mask n)
     (unfold plannerPlan in levels-first n mask n) (chosen-wellCut (plannerPlan n mask) n 1 mask M (planner-chosen n mask))
 
 -- ---- least: P is the planner's choice, Q any allowed plan
@@ -216,7 +218,7 @@ module _ (P Q : List ℕ) where
   no-kind t p mask e w = go (isCut Q p) refl
     where
       go : (b : Bool) → isCut Q p ≡ b → isCut Q p ≡ false
-      go true q = absurd (absurd-bool (isSome (kindOf (2 ^ suc t) mask)) (T-true (isSome (kindOf (2 ^ suc t) mask)) (wellCut-cut Q t p mask q w)) e)
+      go true q = absurd (absurd-bool (isSome (kindOf (2 ^ suc t) mask)) (T-true (isSome (kindOf (2 ^ suc t) mask)) (wellCut-cut Q (suc t) p mask q w)) e)
       go false q = q
 
   pub cost-least : (t p : ℕ) (mask : List ℕ) → T (wellCut P t p mask) → Chosen P t p mask → T (wellCut Q t p mask) → cost P t p mask ≤ cost Q t p mask
@@ -241,8 +243,8 @@ module _ (P Q : List ℕ) where
   cycles-least t p mask wP C wQ = go (isSome (kindOf (2 ^ suc t) mask)) refl (isCut Q p) refl
     where
       go : (b : Bool) → isSome (kindOf (2 ^ suc t) mask) ≡ b → (c : Bool) → isCut Q p ≡ c → cycles P (suc t) p mask ≤ cycles Q (suc t) p mask
-      go true e true q = omega (arith, cycles-cut P t p mask (C .0 e .0), cycles-cut Q t p mask q)
-      go true e false q = omega (arith, cycles-cut P t p mask (C .0 e .0), cycles-through Q t p mask q, price-le (kindOf (2 ^ suc t) mask) (true-T (isSome (kindOf (2 ^ suc t) mask)) e))
+      go true e true q = omega (arith, cycles-cut P (suc t) p mask (C .0 e .0), cycles-cut Q (suc t) p mask q)
+      go true e false q = omega (arith, cycles-cut P (suc t) p mask (C .0 e .0), cycles-through Q t p mask q, price-le (kindOf (2 ^ suc t) mask) (true-T (isSome (kindOf (2 ^ suc t) mask)) e))
       go false e c q =
           let eP : isCut P p ≡ false = C .1 e .0 in
           let eQ : isCut Q p ≡ false = no-kind t p mask e wQ in
@@ -253,19 +255,15 @@ module _ (P Q : List ℕ) where
 -- ---- numbers of cuts
 cuts-none : (plan : List ℕ) (t p : ℕ) → T (noCut plan t p) → cutsBelow plan t p ≡ 0
 unfolding noCut cutsBelow
-cuts-none plan zero p c = go (isCut plan p) c
-  where
-    go : (b : Bool) → T (not b) → bit b ≡ 0
-    go true c = absurd c
-    go false c = refl
+cuts-none plan zero p c = not-bit (isCut plan p) c
 cuts-none plan (suc t) p c =
-    go (isCut plan p) (and-l (not (isCut plan p)) (noCut plan t (2 * p) && noCut plan t (2 * p + 1)) c)
-    (cuts-none plan t (2 * p) (and-l (noCut plan t (2 * p)) (noCut plan t (2 * p + 1)) (and-r (not (isCut plan p)) (noCut plan t (2 * p) && noCut plan t (2 * p + 1)) c)))
-    (cuts-none plan t (2 * p + 1) (and-r (noCut plan t (2 * p)) (noCut plan t (2 * p + 1)) (and-r (not (isCut plan p)) (noCut plan t (2 * p) && noCut plan t (2 * p + 1)) c)))
-  where
-    go : (b : Bool) → T (not b) → {x y : ℕ} → x ≡ 0 → y ≡ 0 → bit b + (x + y) ≡ 0
-    go true c e f = absurd c
-    go false c e f = omega arith
+    let below : T (noCut plan t (2 * p) && noCut plan t (2 * p + 1)) = and-r (not (isCut plan p)) (noCut plan t (2 * p) && noCut plan t (2 * p + 1)) c in
+    omega (
+      arith,
+      not-bit (isCut plan p) (and-l (not (isCut plan p)) (noCut plan t (2 * p) && noCut plan t (2 * p + 1)) c),
+      cuts-none plan t (2 * p) (and-l (noCut plan t (2 * p)) (noCut plan t (2 * p + 1)) below),
+      cuts-none plan t (2 * p + 1) (and-r (noCut plan t (2 * p)) (noCut plan t (2 * p + 1)) below),
+    )
 
 cuts-cut : (plan : List ℕ) (t p : ℕ) → isCut plan p ≡ true → T (noCut plan t (2 * p) && noCut plan t (2 * p + 1)) → cutsBelow plan (suc t) p ≡ 1
 unfolding cutsBelow

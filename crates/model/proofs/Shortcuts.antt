@@ -2,20 +2,19 @@
 use mathlib.Core.Path.{_≡_, refl, sym, _∙_, ap, ap₂, subst}
 use mathlib.Core.Bool.{Bool, true, false}
 use mathlib.Core.Option.{some, Option·some-injective}
-use mathlib.Core.List.{List, [], _∷_, _++_, append-assoc}
+use mathlib.Core.List.{List, [], _∷_, _++_, append-assoc, append-nil}
 use Prim.Native.Nat.{ℕ, zero, suc, _+_, _*_, _-_, _^_, _<_, _≤_}
 use native.Mathlib.Nat.{mul-one}
 use native.Mathlib.Omega.{arith}
-use lib.Dec.{T, eqb, leb, eqb→eq, leb→le}
+use lib.Dec.{T, leb, leb→le}
 use lib.ListN.{getD, take, drop, replicate, length, length-replicate, length-append, replicate-append-replicate}
 use lib.Seq.{take-at, drop-at}
-use lib.Pow.{pow-lt}
 use native.Mathlib.Decide.{decLe}
 use Rattle.model.specs.Lists.{tabulate, same}
 use Rattle.model.specs.Soft.{Soft, certain, softZero, _at_, box, plus}
 use Rattle.model.specs.Scan.{Tree, message, left, right, leafValue, start, toLeft, toRight, toNode, visit}
 use Rattle.model.specs.Kinds.{Kind, rate-0, rate-1, REP, SPC, type-I, type-III, order, leastSize, butLast, onlyFirst, pattern, fits, firstOf, kindOf, others, shortcut}
-use Rattle.model.proofs.Lists.{double, getD-tabulate, tabulate-ext, tabulate-halves, and-l, and-r}
+use Rattle.model.proofs.Lists.{double, getD-tabulate, tabulate-ext, tabulate-halves, and-l, and-r, same→eq, le-of-pow}
 use Rattle.model.proofs.Algebra.{box-certain, box-zero, box-zero-r, box-comm, plus-zero, plus-zero-r, plus-certain, plus-comm, box-monoid, plus-monoid}
 use Rattle.model.proofs.Others.{spread, Local, spread-left, spread-right, spread-base}
 
@@ -121,10 +120,6 @@ tailed last m = replicate (m - length last) 1 ++ last
 
 abbrev pub headed : List ℕ → ℕ → List ℕ
 headed first m = first ++ replicate (m - length first) 0
-
-append-nil : (l : List ℕ) → l ++ [] ≡ l
-append-nil [] = refl
-append-nil (x ∷ xs) = ap {B = List ℕ} (λ r. x ∷ r) (append-nil xs)
 
 module _ (b : List ℕ) (a : ℕ) (lb : length b ≡ 2 ^ a) where
   tailed-base : tailed b (2 ^ a) ≡ b
@@ -258,13 +253,6 @@ module _ (a : ℕ) (b : List ℕ) (lb : length b ≡ 2 ^ a) (base : List Soft �
       (spc-visit t′ c (take (2 ^ t′) mask) (left T) (toLeft (2 ^ t′) L (message (right T))) (S .1) (half-l t′ (headed b (2 ^ t′)) (replicate (2 ^ t′) 0) (length-headed b a lb t′ h) e′))
 
 -- ---- the table
-le-of-pow : (a t : ℕ) → 2 ^ a ≤ 2 ^ t → a ≤ t
-le-of-pow a t h = go (decLe a t)
-  where
-    go : Dec (a ≤ t) → a ≤ t
-    go (yes l) = l
-    go (no n) = let m : 2 ^ t < 2 ^ a = pow-lt (omega arith) in let z : ⊥ = omega arith in absurd z
-
 -- a node of a least size lies at or above the stage of that size
 pub above : (a t : ℕ) → a ≤ t → Above a t
 above a zero h = let e : 0 ≡ a = omega arith in subst (λ (x : ℕ). Above x 0) e here
@@ -273,13 +261,6 @@ above a (suc t) h = go (decLe a t) (above a t)
     go : Dec (a ≤ t) → (a ≤ t → Above a t) → Above a (suc t)
     go (yes l) ih = up t (ih l)
     go (no n) ih = let e : suc t ≡ a = omega arith in subst (λ (x : ℕ). Above x (suc t)) e here
-
-same→eq : (a b : List ℕ) → T (same a b) → a ≡ b
-unfolding same
-same→eq [] [] t = refl
-same→eq [] (y ∷ ys) t = absurd t
-same→eq (x ∷ xs) [] t = absurd t
-same→eq (x ∷ xs) (y ∷ ys) t = ap₂ (λ x xs. x ∷ xs) (eqb→eq x y (and-l (eqb x y) (same xs ys) t)) (same→eq xs ys (and-r (eqb x y) (same xs ys) t))
 
 -- the bases: rate-1 of size s, and rate-0 of size s
 rate1-makes : (a : ℕ) → Makes a (replicate (2 ^ a) 0) (λ L k. softZero)

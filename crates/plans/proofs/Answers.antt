@@ -12,9 +12,10 @@ use Rattle.model.specs.Kinds.{order}
 use Rattle.model.specs.Encoding.{maxMask}
 use Rattle.model.specs.Plans.{plannerPlan, counts}
 use Rattle.model.specs.Refusals.{refusal, exponent, planNumber, planBytes, planCounts}
+use Rattle.model.proofs.Planner.{planner-length}
 use Rattle.plans.specs.Nodes.{written, counted}
-use Rattle.plans.proofs.Faults.{staged}
-use Rattle.plans.proofs.Written.{planned, plan-length}
+use Rattle.plans.proofs.Faults.{staged, sized}
+use Rattle.plans.proofs.Written.{planned}
 use Rattle.plans.proofs.Counted.{counts-planned}
 
 -- the three results
@@ -34,12 +35,9 @@ module _ {t : ℕ} (mask plan : List ℕ) (s : t ≡ exponent (length mask)) whe
   plan-1 e = refused mask plan 1 (number-1 e) (λ z. omega arith)
 
   module _ (e : t ≡ 0 → ⊥) where
-    sized : eqb (exponent (length mask)) 0 ≡ false
-    sized = ne-eqb (exponent (length mask)) 0 (λ z. e (s ∙ z))
-
     number-2 : atMost maxMask mask ≡ false → planNumber mask (length plan) ≡ 2
     unfolding planNumber refusal
-    number-2 b = rw (sized, b)
+    number-2 b = rw (sized mask s e, b)
 
     pub plan-2 : atMost maxMask mask ≡ false → Answer mask plan 2 (replicate (length order) 0) plan
     plan-2 b = refused mask plan 2 (number-2 b) (λ z. omega arith)
@@ -47,14 +45,14 @@ module _ {t : ℕ} (mask plan : List ℕ) (s : t ≡ exponent (length mask)) whe
     module _ (b : atMost maxMask mask ≡ true) where
       number-11 : length plan < 2 * length mask → planNumber mask (length plan) ≡ 11
       unfolding planNumber refusal
-      number-11 h = rw (sized, b, lt-leb (2 * length mask) (length plan) h)
+      number-11 h = rw (sized mask s e, b, lt-leb (2 * length mask) (length plan) h)
 
       pub plan-11 : length plan < 2 * length mask → Answer mask plan 11 (replicate (length order) 0) plan
       plan-11 h = refused mask plan 11 (number-11 h) (λ z. omega arith)
 
       number-0 : 2 * length mask ≤ length plan → planNumber mask (length plan) ≡ 0
       unfolding planNumber refusal
-      number-0 h = rw (sized, b, le-leb (2 * length mask) (length plan) h)
+      number-0 h = rw (sized mask s e, b, le-leb (2 * length mask) (length plan) h)
 
       -- a zeroed plan with the planner's cuts written into it
       bytes-0 : {x y : List ℕ} → x ≡ replicate (2 * length mask) 0 ++ drop (2 * length mask) plan → y ≡ written t 1 mask x → y ≡ over (plannerPlan t mask) plan
@@ -62,7 +60,7 @@ module _ {t : ℕ} (mask plan : List ℕ) (s : t ≡ exponent (length mask)) whe
       bytes-0 f g =
           let m : 2 * length mask ≡ 2 * 2 ^ t = ap (λ (k : ℕ). 2 * k) (staged mask s e .0) in
           g ∙ ap (written t 1 mask) (f ∙ ap (λ (k : ℕ). replicate k 0 ++ drop k plan) m) ∙ planned t mask (drop (2 * 2 ^ t) plan)
-          ∙ ap (λ (k : ℕ). plannerPlan t mask ++ drop k plan) (sym (plan-length t mask))
+          ∙ ap (λ (k : ℕ). plannerPlan t mask ++ drop k plan) (sym (planner-length t mask))
 
       pub plan-0 : {x y cs : List ℕ} → 2 * length mask ≤ length plan → x ≡ replicate (2 * length mask) 0 ++ drop (2 * length mask) plan → y ≡ written t 1 mask x
           → cs ≡ counted t mask (replicate (length order) 0) → Answer mask plan 0 cs y

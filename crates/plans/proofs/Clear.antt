@@ -5,7 +5,7 @@ use native.Mathlib.Decide.{decLe}
 use native.Mathlib.Omega.{arith}
 use mathlib.Core.Path.{_≡_, refl, sym, ap, ap₂, _∙_}
 use mathlib.Core.Bool.{Bool, true, false, not, _&&_}
-use mathlib.Core.List.{List, [], _∷_, _++_}
+use mathlib.Core.List.{List}
 use lib.Dec.{T, eqb, leb}
 use lib.ListN.{length, take, drop, getD, drop-of-length-le, List·getD-eq-default}
 use lib.Pow.{pow-pos}
@@ -13,8 +13,7 @@ use lib.Seq.{drop-cons, drop-drop, take-add}
 use Rattle.model.specs.Lists.{atMost}
 use Rattle.model.specs.Kinds.{kindOf, isSome}
 use Rattle.model.specs.Plans.{isCut, noCut, wellCut}
-use Rattle.model.proofs.Lists.{at-most-at}
-use Rattle.kinds.proofs.Runs.{and-assoc, and-true}
+use Rattle.model.proofs.Lists.{and-true, at-most-at, at-most-append}
 use Rattle.plans.specs.Nodes.{clearBelow}
 use Rattle.plans.proofs.Parts.{twice}
 
@@ -25,11 +24,6 @@ swap true false true d = refl
 swap true false false d = refl
 swap false b c d = refl
 
-at-most-both : (m : ℕ) (xs ys : List ℕ) → atMost m (xs ++ ys) ≡ (atMost m xs && atMost m ys)
-unfolding atMost
-at-most-both m [] ys = refl
-at-most-both m (x ∷ xs) ys = rw (at-most-both m xs ys) (sym (and-assoc (leb x m) (atMost m xs) (atMost m ys)))
-
 module _ (plan : List ℕ) where
   -- a row of nodes holds only 0
   abbrev zeros : ℕ → ℕ → Bool
@@ -37,7 +31,7 @@ module _ (plan : List ℕ) where
 
   zeros-both : (a w v : ℕ) → zeros a (w + v) ≡ (zeros a w && zeros (a + w) v)
   zeros-both a w v =
-      ap (atMost 0) (take-add w v (drop a plan)) ∙ at-most-both 0 (take w (drop a plan)) (take v (drop w (drop a plan)))
+      ap (atMost 0) (take-add w v (drop a plan)) ∙ at-most-append 0 (take w (drop a plan)) (take v (drop w (drop a plan)))
       ∙ ap (λ (l : List ℕ). zeros a w && atMost 0 (take v l)) (drop-drop w a plan)
 
   -- a row by its two parts

@@ -12,6 +12,7 @@ use lib.Seq.{length-take-le, take-length, take-take, take-add, drop-drop, drop-a
 use Rattle.model.specs.Kinds.{Kind, rate-0, rate-1, REP, SPC, type-I, type-III, kindOf, isSome}
 use Rattle.model.specs.Plans.{isCut, isRate01, wellCut, cutCycles, edgeCycles, cycles}
 use Rattle.model.proofs.Lists.{cond-both}
+use Rattle.model.proofs.Cycles.{cycles-cut}
 use Rattle.plans.specs.Nodes.{part, Span, Costs, clearBelow}
 use Rattle.plans.proofs.Parts.{twice, half, at-zero, at-suc, place-l, place-r}
 use Rattle.plans.proofs.Clear.{wellCut-clear}
@@ -44,12 +45,6 @@ costs-small {plan} {t} {p} {mask} {w} {c} {e} A h =
     let b : e ≡ edgeCycles plan (2 ^ t) p mask = A .edge in
     let q : 2 ^ t ≤ 1024 = pow-mono h in
     (omega (arith, cycles-small plan t p mask), omega (arith, edge-small plan (2 ^ t) p mask))
-
--- ---- a cut node
-cycles-cut : (plan : List ℕ) (t p : ℕ) (mask : List ℕ) → isCut plan p ≡ true → cycles plan t p mask ≡ cutCycles (kindOf (2 ^ t) mask)
-unfolding cycles
-cycles-cut plan zero p mask e = refl
-cycles-cut plan (suc t) p mask e = rw e
 
 -- ---- a node's positions of the mask
 module _ {t p b s : ℕ} (mask plan : List ℕ) (h : Span t p b s mask plan) where

@@ -76,21 +76,21 @@ module _ (n : ℕ) (mask plan : List ℕ) where
 pub staged : {t : ℕ} (mask : List ℕ) → t ≡ exponent (length mask) → (t ≡ 0 → ⊥) → (length mask ≡ 2 ^ t) × (t ≤ 10)
 staged {t} mask s e = rw s (exponent-power (length mask) (λ z. e (s ∙ z)))
 
+pub sized : {t : ℕ} (mask : List ℕ) → t ≡ exponent (length mask) → (t ≡ 0 → ⊥) → eqb (exponent (length mask)) 0 ≡ false
+sized mask s e = ne-eqb (exponent (length mask)) 0 (λ z. e (s ∙ z))
+
 module _ {t : ℕ} (mask plan : List ℕ) (s : t ≡ exponent (length mask)) where
   pub check-1 : t ≡ 0 → (1 ≡ checkNumber mask plan) × (0 ≡ checkCycles mask plan)
   unfolding checkNumber checkCycles refusal
   check-1 e = let z : exponent (length mask) ≡ 0 = sym s ∙ e in (rw z, rw z)
 
   module _ (e : t ≡ 0 → ⊥) where
-    sized : eqb (exponent (length mask)) 0 ≡ false
-    sized = ne-eqb (exponent (length mask)) 0 (λ z. e (s ∙ z))
-
     pub check-2 : atMost maxMask mask ≡ false → (2 ≡ checkNumber mask plan) × (0 ≡ checkCycles mask plan)
     unfolding checkNumber checkCycles refusal
-    check-2 b = (rw (sized, b), rw (sized, b))
+    check-2 b = (rw (sized mask s e, b), rw (sized mask s e, b))
 
     pub check-fault : {f c : ℕ} → atMost maxMask mask ≡ true → f ≡ faultNumber t mask plan → c ≡ faultCycles t mask plan
         → (f ≡ checkNumber mask plan) × (c ≡ checkCycles mask plan)
     unfolding checkNumber checkCycles refusal faultNumber faultCycles
     check-fault b p q =
-        (p ∙ rw (s, sized, b), q ∙ rw (s, sized, b))
+        (p ∙ rw (s, sized mask s e, b), q ∙ rw (s, sized mask s e, b))

@@ -8,7 +8,7 @@ use native.Mathlib.Nat.{le-trans, le-mul-of-pos-right}
 use lib.ListN.{length, take, drop, length-drop}
 use lib.Pow.{pow-pos}
 use lib.Seq.{length-take-le}
-use Rattle.kinds.proofs.Runs.{to-end}
+use Rattle.model.proofs.Lists.{take-left}
 use Rattle.plans.specs.Nodes.{Place, Node}
 
 -- a stage above 0
@@ -55,7 +55,7 @@ module _ {t p l : ℕ} (mask : List ℕ) (h : Node t p (length mask) l) (e : t �
   pub node-r : Node (t - 1) (2 * p + 1) (length (take (length mask - length mask / 2) (drop (length mask / 2) mask))) l
   node-r =
       record {
-        size = ap length (to-end mask (length mask / 2)) ∙ length-drop (length mask / 2) mask ∙ omega (arith, half (h .size) e, h .size, twice t e);
+        size = ap length (take-left mask (length mask / 2)) ∙ length-drop (length mask / 2) mask ∙ omega (arith, half (h .size) e, h .size, twice t e);
         low = let q = h .low in omega arith;
         place = place-r (h .place) e;
       }

@@ -16,7 +16,7 @@ use Rattle.model.specs.Refusals.{refusal, exponent, planNumber, planBytes}
 use Rattle.model.proofs.Lists.{true-T}
 use Rattle.model.proofs.Refusals.{exponent-power}
 use Rattle.model.proofs.Theorems.{plan-allowed, plan-least, plan-fewest}
-use Rattle.plans.proofs.Written.{plan-length}
+use Rattle.model.proofs.Planner.{planner-length}
 
 -- what is promised of a plan P for a mask of 2 ^ n bytes
 pub record Best (n : ℕ) (mask P : List ℕ) : Type 0 where
@@ -47,7 +47,7 @@ module _ (mask plan : List ℕ) (number : 0 ≡ planNumber mask (length plan)) w
   unfolding planBytes over
   front out e =
       let n : ℕ = exponent (length mask) in
-      let sized : length (plannerPlan n mask) ≡ 2 * length mask = plan-length n mask ∙ ap (λ (m : ℕ). 2 * m) (sym (exponent-power (length mask) (passed .0) .0)) in
+      let sized : length (plannerPlan n mask) ≡ 2 * length mask = planner-length n mask ∙ ap (λ (m : ℕ). 2 * m) (sym (exponent-power (length mask) (passed .0) .0)) in
       ap (take (2 * length mask)) (e ∙ rw (← number))
       ∙ take-at (plannerPlan n mask) (drop (length (plannerPlan n mask)) plan) (2 * length mask) sized
 

@@ -6,7 +6,7 @@ use mathlib.Core.Bool.{true, false}
 use mathlib.Core.List.{List}
 use lib.ListN.{length, take, drop, set}
 use Rattle.model.specs.Kinds.{order, kindOf, isSome}
-use Rattle.kinds.proofs.Runs.{to-end}
+use Rattle.model.proofs.Lists.{take-left}
 use Rattle.plans.specs.Nodes.{Node, rowOf, noted, written, counted, Free}
 use Rattle.plans.proofs.Parts.{half, twice, at-zero, at-suc}
 use Rattle.plans.proofs.Counted.{row-some, row-none, counted-le}
@@ -53,7 +53,7 @@ module _ {t p l i : ℕ} (mask plan cs : List ℕ) (h : Node t p (length mask) l
       → Both (t - 1) (2 * p + 1) (take (length mask - length mask / 2) (drop (length mask / 2) mask)) x a y b → Both t p mask plan cs y b
   down-node {x} {y} {a} {b} e z L R =
       at-suc (λ t. isSome (kindOf (2 ^ t) mask) ≡ false → Both t p mask plan cs y b) t z
-      (λ k. none-node p mask plan cs (t - 1) k (rw (half (h .size) z) at L) (rw (to-end mask (length mask / 2), half (h .size) z) at R))
+      (λ k. none-node p mask plan cs (t - 1) k (rw (half (h .size) z) at L) (rw (take-left mask (length mask / 2), half (h .size) z) at R))
       (none-here e)
 
 -- ---- room in the counts

@@ -1,29 +1,21 @@
 -- What the recursion writes into a zeroed plan is the planner's plan. Assumes nothing.
-use Prim.Native.Nat.{ℕ, zero, suc, _+_, _*_, _-_, _^_, _<_, _≤_, zero-le}
+use Prim.Native.Nat.{ℕ, zero, suc, _+_, _*_, _^_, _<_, _≤_, zero-le}
 use native.Mathlib.Omega.{arith}
 use native.Mathlib.Nat.{mul-le-mul-left, mul-le-mul-right, one-mul}
 use native.Mathlib.Decide.{decLe}
 use mathlib.Core.Path.{_≡_, refl, sym, ap, _∙_}
 use mathlib.Core.Bool.{Bool, true, false, cond}
 use mathlib.Core.List.{List, [], _∷_, _++_}
-use borrow.Author.Tests.{lt-ltb, le-ltb}
 use lib.ListN.{length, take, drop, getD, set, replicate, length-set, length-replicate}
 use lib.Pow.{pow-pos, pow-mono}
 use lib.Seq.{getD-set-same, getD-set-other, set-append-left, drop-cons, take-add, take-all}
 use Rattle.model.specs.Lists.{tabulate, bit}
 use Rattle.model.specs.Kinds.{kindOf, isSome}
 use Rattle.model.specs.Plans.{cutAt, levels, plannerPlan}
-use Rattle.model.proofs.Lists.{double}
-use Rattle.model.proofs.Planner.{idx-root}
+use Rattle.model.proofs.Lists.{double, halves}
+use Rattle.model.proofs.Planner.{idx-root, idx-l, idx-r, cutAt-some, cutAt-l, cutAt-r}
 use Rattle.plans.specs.Nodes.{Place, written}
 use Rattle.plans.proofs.Parts.{inside, root}
-
--- ---- places: d levels below node p, place i
-idx-l : (p d i : ℕ) → p * 2 ^ suc d + i ≡ (2 * p) * 2 ^ d + i
-idx-l p d i = rw (double d) (omega arith)
-
-idx-r : (p d i : ℕ) → p * 2 ^ suc d + (i + 2 ^ d) ≡ (2 * p + 1) * 2 ^ d + i
-idx-r p d i = rw (double d) (omega arith)
 
 -- the two subtrees of a node share no place
 apart : (p d i e j : ℕ) → 1 ≤ p → i < 2 ^ d → j < 2 ^ e → (2 * p) * 2 ^ d + i ≡ (2 * p + 1) * 2 ^ e + j → ⊥
@@ -94,18 +86,6 @@ unfolding cutAt
 cutAt-here zero i mask = refl
 cutAt-here (suc t) i mask = refl
 
-cutAt-some : (t d i : ℕ) (mask : List ℕ) → isSome (kindOf (2 ^ suc t) mask) ≡ true → cutAt (suc t) (suc d) i mask ≡ false
-unfolding cutAt
-cutAt-some t d i mask e = rw e
-
-cutAt-l : (t d i : ℕ) (mask : List ℕ) → isSome (kindOf (2 ^ suc t) mask) ≡ false → i < 2 ^ d → cutAt (suc t) (suc d) i mask ≡ cutAt t d i (take (2 ^ t) mask)
-unfolding cutAt
-cutAt-l t d i mask e l = rw (e, lt-ltb i (2 ^ d) l)
-
-cutAt-r : (t d i : ℕ) (mask : List ℕ) → isSome (kindOf (2 ^ suc t) mask) ≡ false → 2 ^ d ≤ i → cutAt (suc t) (suc d) i mask ≡ cutAt t d (i - 2 ^ d) (drop (2 ^ t) mask)
-unfolding cutAt
-cutAt-r t d i mask e l = rw (e, le-ltb i (2 ^ d) l)
-
 -- ---- what `written` is, by the node's kind
 written-some : (t p : ℕ) (mask plan : List ℕ) → isSome (kindOf (2 ^ t) mask) ≡ true → written t p mask plan ≡ set plan p 1
 unfolding written
@@ -156,16 +136,11 @@ module _ (t p : ℕ) (mask plan : List ℕ) (h : 1 ≤ p) (z : Zero (suc t) p pl
       (written-out t (2 * p + 1) (drop (2 ^ t) mask) (written t (2 * p) (take (2 ^ t) mask) plan) (p * 2 ^ 0 + i) (λ d j k n r. above p d (j + 2 ^ d) h (sym q ∙ r ∙ sym (idx-r p d j)))
       ∙ written-out t (2 * p) (take (2 ^ t) mask) plan (p * 2 ^ 0 + i) (λ d j k n r. above p d j h (sym q ∙ r ∙ sym (idx-l p d j)))
       ∙ z 0 i m l)
-  in-none e L R (suc d) i m l = go (decLe (2 ^ d) i)
-    where
-      go : Dec (2 ^ d ≤ i) → getD (written (suc t) p mask plan) (p * 2 ^ suc d + i) 0 ≡ bit (cutAt (suc t) (suc d) i mask)
-      go (yes k) =
-          let s : p * 2 ^ suc d + i ≡ (2 * p + 1) * 2 ^ d + (i - 2 ^ d) = omega (arith, idx-r p d (i - 2 ^ d)) in
-          rw (written-none t p mask plan e, cutAt-r t d i mask e k, s) (R d (i - 2 ^ d) (omega arith) (omega arith))
-      go (no k) =
-          let n : i < 2 ^ d = omega arith in
-          rw (written-none t p mask plan e, cutAt-l t d i mask e n, idx-l p d i)
-          (written-out t (2 * p + 1) (drop (2 ^ t) mask) (written t (2 * p) (take (2 ^ t) mask) plan) ((2 * p) * 2 ^ d + i) (out-of-r d i n) ∙ L d i (omega arith) n)
+  in-none e L R (suc d) i m l =
+      halves d (λ i. getD (written (suc t) p mask plan) (p * 2 ^ suc d + i) 0 ≡ bit (cutAt (suc t) (suc d) i mask))
+      (λ i n. rw (written-none t p mask plan e, cutAt-l t d i mask e n, idx-l p d i)
+      (written-out t (2 * p + 1) (drop (2 ^ t) mask) (written t (2 * p) (take (2 ^ t) mask) plan) ((2 * p) * 2 ^ d + i) (out-of-r d i n) ∙ L d i (omega arith) n))
+      (λ i n. rw (written-none t p mask plan e, cutAt-r t d i mask e, idx-r p d i) (R d i (omega arith) n)) i l
 
 in-zero : (p : ℕ) (mask plan : List ℕ) → 1 ≤ p → p < length plan → Zero 0 p plan → (b : Bool) → isSome (kindOf (2 ^ 0) mask) ≡ b → In 0 p mask plan
 in-zero p mask plan h k z true e = in-some 0 p mask plan h k z e
@@ -253,6 +228,3 @@ written-plan n mask =
 pub planned : (n : ℕ) (mask tail : List ℕ) → written n 1 mask (replicate (2 * 2 ^ n) 0 ++ tail) ≡ plannerPlan n mask ++ tail
 planned n mask tail =
     written-append n 1 mask (replicate (2 * 2 ^ n) 0) tail (root n (omega (arith, length-replicate {A = ℕ} (2 * 2 ^ n) 0))) ∙ ap (λ (x : List ℕ). x ++ tail) (written-plan n mask)
-
-pub plan-length : (n : ℕ) (mask : List ℕ) → length (plannerPlan n mask) ≡ 2 * 2 ^ n
-plan-length n mask = ap length (sym (written-plan n mask)) ∙ written-length n 1 mask (replicate (2 * 2 ^ n) 0) ∙ length-replicate (2 * 2 ^ n) 0

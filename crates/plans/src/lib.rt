@@ -1,7 +1,9 @@
 // The planner, the check of a plan, and the cycles of one sweep.
 // A recursion goes down the tree with a node's stage t, its number p, and its positions of the mask: 2p and 2p + 1 are its children.
 use inputs::at_most;
+use inputs::both;
 use inputs::exponent_of;
+use inputs::mask_bytes;
 use kinds::Kind;
 use kinds::kind_of;
 ghost use mathlib.Core.Path.{_≡_};
@@ -18,17 +20,8 @@ ghost use Rattle.kinds.specs.Runs.{kindNamed};
 ghost use Rattle.plans.specs.Nodes.{Place, Node, Span, part, clearBelow, Costs, rowOf, written, counted, Free};
 ghost use Rattle.plans.specs.Faults.{faultNumber, faultCycles};
 
-// The largest mask byte.
-const MAX_MASK: u8 = 1;
-
 // The number of kinds.
 const KINDS: usize = 6;
-
-fn both(a: bool, b: bool) -> bool
-    ensures { λ r. ⌜ r ≡ (a && b) ⌝ }
-{
-    if a { b } else { false }
-}
 
 // Whether no node below node p, of stage t, is cut. The nodes of a level below p lie side by side in the plan.
 fn no_cut_below(plan: &[u8], t: usize, p: usize) -> bool
@@ -137,41 +130,35 @@ fn is_plan(plan: &[u8], size: usize) -> bool
     }
 }
 
-// Tests 5 and 6 of a plan: the number, and the cycles of one sweep if it is 0.
-pub struct Fault {
+// What a check of a plan answers: the number, and the cycles of one sweep if it is 0.
+pub struct Checked {
     pub number: u32,
     pub cycles: u32,
 }
 
-// Tests a plan for a mask of 2 ^ t bytes. The decoder shares it.
-pub fn fault_of(mask: &[u8], plan: &[u8], t: usize) -> Fault
+// Tests 5 and 6 of a plan, for a mask of 2 ^ t bytes. The decoder shares them.
+pub fn fault_of(mask: &[u8], plan: &[u8], t: usize) -> Checked
     requires { ⌜ (length (now mask) ≡ 2 ^ t) × (t ≤ 10) ⌝ }
     ensures { λ r. ⌜ (r .number ≡ faultNumber t (now (mask .entry)) (now (plan .entry))) × (r .cycles ≡ faultCycles t (now (mask .entry)) (now (plan .entry))) ⌝ }
 {
     if !is_plan(plan, 2 * mask.len()) {
-        return Fault {
+        return Checked {
             number: 5,
             cycles: 0,
         };
     }
     let c = cost_at(mask, plan, t, 1, 0, mask.len());
     if c.well {
-        Fault {
+        Checked {
             number: 0,
             cycles: c.cycles,
         }
     } else {
-        Fault {
+        Checked {
             number: 6,
             cycles: 0,
         }
     }
-}
-
-// What a check of a plan answers: the number, and the cycles of one sweep.
-pub struct Checked {
-    pub number: u32,
-    pub cycles: u32,
 }
 
 // Checks a plan for a mask.
@@ -185,17 +172,13 @@ pub fn check_plan(mask: &[u8], plan: &[u8]) -> Checked
             cycles: 0,
         };
     }
-    if !at_most(mask, MAX_MASK) {
+    if !mask_bytes(mask) {
         return Checked {
             number: 2,
             cycles: 0,
         };
     }
-    let f = fault_of(mask, plan, t);
-    Checked {
-        number: f.number,
-        cycles: f.cycles,
-    }
+    fault_of(mask, plan, t)
 }
 
 // Sets the first n bytes to 0.
@@ -265,7 +248,7 @@ pub fn plan_mask(mask: &[u8], plan: &mut [u8]) -> Planned
     if t == 0 {
         return Planned { number: 1, counts };
     }
-    if !at_most(mask, MAX_MASK) {
+    if !mask_bytes(mask) {
         return Planned { number: 2, counts };
     }
     let size = 2 * mask.len();

@@ -3,11 +3,11 @@
 use mathlib.Core.Path.{_≡_, refl, sym, ap, _∙_, subst}
 use mathlib.Core.Bool.{Bool, true, false, _&&_, true≢false, false≢true}
 use Prim.Native.Nat.{ℕ, zero, suc, _+_, _-_, _*_, _/_, _%_, _^_, _≤_, _<_, min}
-use native.Mathlib.Nat.{lt-of-lt-of-le, not-le-of-lt, zero-lt-suc, mul-comm, mul-assoc, mul-right-comm, mul-one, mul-pos, mul-lt-mul-of-pos-right, lt-of-mul-lt-mul-right, div-lt-iff-lt-mul, le-div-iff-mul-le, add-div-right, div-div-eq-div-mul, add-mul}
+use native.Mathlib.Nat.{lt-of-lt-of-le, zero-lt-suc, mul-comm, mul-assoc, mul-right-comm, mul-one, mul-pos, mul-lt-mul-of-pos-right, lt-of-mul-lt-mul-right, div-lt-iff-lt-mul, le-div-iff-mul-le, add-div-right, div-div-eq-div-mul, add-mul}
 use native.Mathlib.Omega.{arith}
 use lib.IntN.{ℤ, pos, negsuc, negℤ, _-ℤ_, +ℤ-idl}
 use lib.Dec.{T, leb, ltb, eqb, ltb→lt, leb→le, lt→ltb, lit<, lit≤}
-use lib.Pow.{pow-add, pow-pos, pow-lt, pow-mono, shl-lt}
+use lib.Pow.{pow-add, pow-pos, pow-mono, shl-lt}
 use lib.Ieee.{Float, nan, inf, fin, binary32, up, down, add, neg, sum, round, lt, fits, toUnsigned}
 use lib.Ieee.Fits.{down-pos, and-l, and-r}
 use lib.Ieee.Exact.{HasValue, round-exact}
@@ -15,6 +15,7 @@ use lib.Ieee.Scale.{round-same}
 use lib.Ieee.Nearest.{div-same}
 use borrow.Author.Tests.{ltb-true, ltb-false}
 use Rattle.model.specs.Samples.{nearestWhole, toLlr}
+use Rattle.model.proofs.Lists.{le-of-pow}
 use Rattle.samples.specs.Cases.{wholeOf}
 use lib.Signed.{mag}
 use mir.Syntax.{w16}
@@ -55,12 +56,6 @@ high s m e t =
     let exponent = leb (down e) (2 ^ 149) in
     leb→le (down e) (2 ^ 149) (and-r odd-digits exponent (and-l (odd-digits && exponent) (ltb (suc m * up e) (2 ^ 128 * down e)) t))
 
-pow-le-back : (i j : ℕ) → 2 ^ i ≤ 2 ^ j → i ≤ j
-pow-le-back i j h = omega-le (λ (l : j < i). not-le-of-lt (pow-lt l) h)
-  where
-    omega-le : ((j < i) → ⊥) → i ≤ j
-    omega-le n = omega arith
-
 -- ---- x + x is 2 x exactly, below 32767
 twice-exact : (m : ℕ) (e : ℤ) → T (fits binary32 (fin false (suc m) e)) → suc m * up e < 32767 * down e
     → HasValue (round binary32 false (2 * (suc m * up e)) (down e)) false (2 * (suc m * up e)) (down e)
@@ -77,7 +72,7 @@ twice-exact m (pos k) t h =
     shift : (x : ℕ) → 2 * x * 2 ^ 149 ≡ x * 2 ^ 150
     shift x = ap (λ (y : ℕ). y * 2 ^ 149) (mul-comm 2 x) ∙ mul-assoc x 2 (2 ^ 149)
 twice-exact m (negsuc k) t h =
-    let l : suc k ≤ 149 = pow-le-back (suc k) 149 (high false m (negsuc k) t) in
+    let l : suc k ≤ 149 = le-of-pow (suc k) 149 (high false m (negsuc k) t) in
     let j = 150 - suc k in
     let j-is : j + suc k ≡ 150 = omega arith in
     let j-le : j ≤ 150 = omega arith in

@@ -12,11 +12,11 @@ use lib.ListN.{length, getD, take, drop, length-drop}
 use lib.Seq.{length-take-le}
 use Rattle.model.specs.Lists.{tabulate}
 use Rattle.model.specs.Soft.{Soft, certain, softZero, _at_, box, plus, wordOf}
-use Rattle.model.specs.Scan.{Tree, leaf}
+use Rattle.model.specs.Scan.{leaf}
 use Rattle.model.specs.Kinds.{isSome, Kind, rate-0, rate-1, REP, SPC, type-I, type-III, kindOf, shortcut, others}
-use Rattle.model.specs.Plans.{isRate01, isCut, wellCut, walk, putKind, put}
+use Rattle.model.specs.Plans.{isRate01, isCut, wellCut, putKind, put}
 use Rattle.model.specs.Bounds.{limit, Small, Under, cap}
-use Rattle.model.proofs.Lists.{T-true, double, tabulate-ext, getD-tabulate, and-l, and-r}
+use Rattle.model.proofs.Lists.{T-true, double, tabulate-ext, getD-tabulate, and-l}
 use Rattle.model.proofs.PlannedWalk.{walk-cut}
 use Rattle.model.proofs.Paths.{wellCut-cut}
 use Rattle.model.proofs.Bounds.{shortcut-under, under-mono}
@@ -24,7 +24,7 @@ use Rattle.words.specs.Words.{word, softOf, soft, stored, Incoming}
 use Rattle.words.proofs.Laws.{soft-word, soft-at, small-size}
 use Rattle.scan.specs.Space.{constant, treeAt, part, Room, Visited, cutWords}
 use Rattle.scan.proofs.Keep.{Fit, kept-row, node-path, under, stored-at}
-use Rattle.scan.proofs.Runs.{fit-room, walk-at-cut, cut-some}
+use Rattle.scan.proofs.Runs.{fit-room}
 
 -- a list made by a formula is made by its own places
 own-places : (n : ℕ) (f : ℕ → Soft) → tabulate n f ≡ tabulate n (λ k. tabulate n f at k)
@@ -91,7 +91,7 @@ module _ (plan mask : List ℕ) (N t s p b x : ℕ) (w v : List ℤ) (room : Roo
 
   pub visited-cut : v ≡ cutWords (kindOf (2 ^ t) (part mask b t)) w (t * N + b) x s → Visited plan mask N t p b x w v
   visited-cut q =
-      go (kindOf (2 ^ t) (part mask b t)) refl (cut-some plan t p (part mask b t) yes (room .cuts))
+      go (kindOf (2 ^ t) (part mask b t)) refl (wellCut-cut plan t p (part mask b t) yes (room .cuts))
       (q ∙ ap (λ (z : ℕ). cutWords (kindOf (2 ^ t) (part mask b t)) w (t * N + b) x z) (room .size))
     where
       go : (o : Option Kind) → kindOf (2 ^ t) (part mask b t) ≡ o → T (isSome o) → v ≡ cutWords (kindOf (2 ^ t) (part mask b t)) w (t * N + b) x (2 ^ t) → Visited plan mask N t p b x w v
@@ -100,7 +100,7 @@ module _ (plan mask : List ℕ) (N t s p b x : ℕ) (w v : List ℤ) (room : Roo
           let r′ : v ≡ stored w (t * N + b) (2 ^ t) (shortcut k (2 ^ t) L) = r ∙ ap (λ (o : Option Kind). cutWords o w (t * N + b) x (2 ^ t)) e in
           record {
             tree = put-tree N t b x w v (shortcut k (2 ^ t) L) (fit-room room) r′ (read-back k e r′)
-                ∙ sym (walk-at-cut plan t p (part mask b t) (treeAt N w t b) L yes ∙ ap (λ (o : Option Kind). putKind o (2 ^ t) L (treeAt N w t b)) e);
+                ∙ sym (walk-cut plan t p (part mask b t) (treeAt N w t b) L yes ∙ ap (λ (o : Option Kind). putKind o (2 ^ t) L (treeAt N w t b)) e);
             kept = kept-row N t b x w v _ (fit-room room) (t * N + b) (2 ^ t) r′ (omega arith) (omega arith);
           }
 

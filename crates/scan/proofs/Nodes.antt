@@ -2,8 +2,9 @@
 use mathlib.Core.Path.{_≡_, refl, sym, ap, _∙_, subst}
 use Prim.Native.Nat.{ℕ, zero, suc, _+_, _-_, _*_, _/_, _^_, _≤_, _<_}
 use native.Mathlib.Omega.{arith}
-use native.Mathlib.Nat.{pow-suc, suc-mul, mul-add, add-mul, mul-assoc, mul-le-mul-left, mul-one}
+use native.Mathlib.Nat.{suc-mul, mul-add, add-mul, mul-assoc, mul-le-mul-left, mul-one}
 use lib.Pow.{pow-pos}
+use Rattle.model.proofs.Lists.{double}
 
 pub record Geo (N len plan t s p b x h u : ℕ) : Type 0 where
   pub half : h + h ≡ s
@@ -15,14 +16,11 @@ pub record Geo (N len plan t s p b x h u : ℕ) : Type 0 where
   pub right : (2 * p + 1 + 1) * h ≤ plan
   pub node : 2 * p + 1 < plan
 
-pub pow-two : (u : ℕ) → 2 ^ suc u ≡ 2 ^ u + 2 ^ u
-pow-two u = omega (arith, pow-suc 2 u)
-
 pub geo : (N len plan t s p b x : ℕ) → s ≡ 2 ^ t → (p + 1) * s ≤ plan → (t ≡ 0 → ⊥) → Geo N len plan t s p b x (s / 2) (t - 1)
 geo N len plan zero s p b x size planned ne = absurd (ne refl)
 geo N len plan (suc u) s p b x size planned ne =
     let h : ℕ = 2 ^ u in
-    let two : s ≡ h + h = size ∙ pow-two u in
+    let two : s ≡ h + h = size ∙ double u in
     let is-half : s / 2 ≡ h = omega arith in
     let is-pred : suc u - 1 ≡ u = omega arith in
     let pos : 0 < h = pow-pos u in

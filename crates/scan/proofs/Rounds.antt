@@ -16,7 +16,7 @@ use Rattle.model.specs.Soft.{Soft, finite, certain, softZero, _at_, mark, wordO
 use Rattle.model.specs.Scan.{Tree, leaf, message, leafValue, start, sweeps, scan}
 use Rattle.model.specs.Plans.{Stays, wellCut, walk, planned}
 use Rattle.model.specs.Bounds.{Small, SmallAll, Held}
-use Rattle.model.proofs.Lists.{double, tabulate-ext, getD-tabulate}
+use Rattle.model.proofs.Lists.{double, tabulate-ext}
 use Rattle.model.proofs.Paths.{allowed-length, allowed-cuts}
 use Rattle.model.proofs.Theorems.{soft-same}
 use Rattle.model.proofs.PlannedWalk.{walk-stays, stays-same, stays-then}
@@ -31,13 +31,14 @@ use Rattle.scan.proofs.Keep.{node-path, part-left, part-right, row-belo
 whole : (mask : List ℕ) (t : ℕ) → length mask ≤ 2 ^ t → part mask 0 t ≡ mask
 whole mask t h = take-all (2 ^ t) mask h
 
+-- where the root's incoming list and the end of the workspace are
+at-root : (N t : ℕ) → N * (t + 1) ≡ t * N + N
+at-root N t = omega (arith, mul-add N t 1, mul-comm N t)
+
+all-rows : (N t : ℕ) → N * (t + 3) ≡ t * N + 3 * N
+all-rows N t = omega (arith, mul-add N t 3, mul-comm N t)
+
 module _ {plan mask : List ℕ} {N t : ℕ} {w : List ℤ} (r : Ready plan mask N t w) where
-  at-root : N * (t + 1) ≡ t * N + N
-  at-root = omega (arith, mul-add N t 1, mul-comm N t)
-
-  all-rows : N * (t + 3) ≡ t * N + 3 * N
-  all-rows = omega (arith, mul-add N t 3, mul-comm N t)
-
   positive : 0 < N
   positive = subst (λ (z : ℕ). 0 < z) (sym (r .size)) (pow-pos t)
 
@@ -52,8 +53,8 @@ module _ {plan mask : List ℕ} {N t : ℕ} {w : List ℤ} (r : Ready plan mask 
   pub root-room : Room plan mask N t N 1 0 (N * (t + 1)) w
   root-room = record {
     size = r .size;
-    fit = omega (arith, r .room, at-root, all-rows);
-    rows = omega (arith, at-root);
+    fit = omega (arith, r .room, at-root N t, all-rows N t);
+    rows = omega (arith, at-root N t);
     within = omega arith;
     planned = omega (arith, allowed-length t plan mask (r .allowed), r .size);
     masked = omega (arith, r .positions);
@@ -74,8 +75,8 @@ module _ {plan mask : List ℕ} {N t : ℕ} {w : List ℤ} (r : Ready plan mask 
       record {
         tree = tree-is v done;
         below = subst (Stays plan t 1 (treeAt N w t 0)) (sym (tree-is v done)) (walk-stays plan t 1 mask (treeAt N w t 0) (soft w (N * (t + 1)) N));
-        list = λ i lt. k .between (N * (t + 1) + i) (omega (arith, at-root)) (omega (arith, r .size));
-        past = λ j le. k .beyond j (omega (arith, at-root, all-rows, r .size));
+        list = λ i lt. k .between (N * (t + 1) + i) (omega (arith, at-root N t)) (omega (arith, r .size));
+        past = λ j le. k .beyond j (omega (arith, at-root N t, all-rows N t, r .size));
         long = k .long;
       }
 
@@ -158,12 +159,6 @@ module _ (plan mask : List ℕ) (llrs : List ℤ) (N t : ℕ) (out w w₁ w₂ w
     (e₁ : w₁ ≡ write w 0 (length mask) (λ k. wordOf (leafValue (getD mask k 0))))
     (e₂ : w₂ ≡ write w₁ N (t * N) (λ k. pos 0))
     (e₃ : w₃ ≡ write w₂ (N * (t + 1)) (length llrs) (word llrs)) where
-  root : N * (t + 1) ≡ t * N + N
-  root = omega (arith, mul-add N t 1, mul-comm N t)
-
-  rows : N * (t + 3) ≡ t * N + 3 * N
-  rows = omega (arith, mul-add N t 3, mul-comm N t)
-
   long₁ : length w₁ ≡ length w
   long₁ = ap length e₁ ∙ length-write (pos 0) w 0 (length mask) _
 
@@ -177,18 +172,18 @@ module _ (plan mask : List ℕ) (llrs : List ℤ) (N t : ℕ) (out w w₁ w₂ w
   first-row i lt =
       let z : 0 * N + i ≡ i = omega arith in
       ap (word w₃) z
-      ∙ source-below (pos 0) w₂ w₃ (N * (t + 1)) (length llrs) _ i e₃ (omega (arith, root))
+      ∙ source-below (pos 0) w₂ w₃ (N * (t + 1)) (length llrs) _ i e₃ (omega (arith, at-root N t))
       ∙ source-below (pos 0) w₁ w₂ N (t * N) _ i e₂ lt
       ∙ ap (word w₁) (let q : i ≡ 0 + i = omega arith in q)
-      ∙ stored-at w w₁ 0 (length mask) _ i e₁ (omega (arith, can .positions)) (omega (arith, can .positions, can .room, rows))
+      ∙ stored-at w w₁ 0 (length mask) _ i e₁ (omega (arith, can .positions)) (omega (arith, can .positions, can .room, all-rows N t))
 
   other-rows : (u i : ℕ) → u < t → i < N → word w₃ (suc u * N + i) ≡ pos 0
   other-rows u i lt h =
       let m : suc u * N ≡ u * N + N = suc-mul u N in
       let under : u * N + i < t * N = row-below N u t i lt h in
-      source-below (pos 0) w₂ w₃ (N * (t + 1)) (length llrs) _ (suc u * N + i) e₃ (omega (arith, root))
+      source-below (pos 0) w₂ w₃ (N * (t + 1)) (length llrs) _ (suc u * N + i) e₃ (omega (arith, at-root N t))
       ∙ ap (word w₂) (let q : suc u * N + i ≡ N + (u * N + i) = omega arith in q)
-      ∙ stored-at w₁ w₂ N (t * N) _ (u * N + i) e₂ under (omega (arith, can .room, rows, long₁))
+      ∙ stored-at w₁ w₂ N (t * N) _ (u * N + i) e₂ under (omega (arith, can .room, all-rows N t, long₁))
 
   pub started : treeAt N w₃ t 0 ≡ start t mask
   started =
@@ -200,7 +195,7 @@ module _ (plan mask : List ℕ) (llrs : List ℤ) (N t : ℕ) (out w w₁ w₂ w
   loaded =
       ap (λ (n : ℕ). tabulate n (λ k. softOf (word w₃ (N * (t + 1) + k)))) (sym (can .values))
       ∙ tabulate-ext (length llrs) _ (λ k. finite (word llrs k)) (λ k lt.
-      ap softOf (stored-at w₂ w₃ (N * (t + 1)) (length llrs) (word llrs) k e₃ lt (omega (arith, can .values, can .room, root, rows, long₂)))
+      ap softOf (stored-at w₂ w₃ (N * (t + 1)) (length llrs) (word llrs) k e₃ lt (omega (arith, can .values, can .room, at-root N t, all-rows N t, long₂)))
       ∙ soft-fin (word llrs k) (λ e. let f : natAbs (word llrs k) ≡ mark = ap natAbs e in omega (arith, can .small k (omega (arith, can .values)))))
       ∙ tabulate-map finite llrs (pos 0)
 
@@ -241,9 +236,9 @@ module _ (plan mask : List ℕ) (llrs : List ℤ) (N t : ℕ) (out w w₁ w₂ w
         (λ j lt. absurd (omega arith))
         (λ j le. source-above (pos 0) w₄ v 0 (N * (t + 3)) _ j e le
         ∙ s .past j (omega arith)
-        ∙ source-above (pos 0) w₂ w₃ (N * (t + 1)) (length llrs) _ j e₃ (omega (arith, root, rows, can .values))
-        ∙ source-above (pos 0) w₁ w₂ N (t * N) _ j e₂ (omega (arith, root, rows))
-        ∙ source-above (pos 0) w w₁ 0 (length mask) _ j e₁ (omega (arith, rows, can .positions)))
+        ∙ source-above (pos 0) w₂ w₃ (N * (t + 1)) (length llrs) _ j e₃ (omega (arith, at-root N t, all-rows N t, can .values))
+        ∙ source-above (pos 0) w₁ w₂ N (t * N) _ j e₂ (omega (arith, at-root N t, all-rows N t))
+        ∙ source-above (pos 0) w w₁ 0 (length mask) _ j e₁ (omega (arith, all-rows N t, can .positions)))
 
 -- the numbers of a decode
 pub record Sizes (N t words : ℕ) : Type 0 where
@@ -254,11 +249,10 @@ pub record Sizes (N t words : ℕ) : Type 0 where
 
 pub sizes-of : {plan mask : List ℕ} {llrs : List ℤ} {N t out words : ℕ} → Decodable plan mask llrs N t out words → Sizes N t words
 sizes-of {N = N} {t = t} {words = words} can =
-    let r : N * (t + 3) ≡ t * N + 3 * N = omega (arith, mul-add N t 3, mul-comm N t) in
     let p : 0 < N = subst (λ (z : ℕ). 0 < z) (sym (can .size)) (pow-pos t) in
     record {
-      root = omega (arith, mul-add N t 1, mul-comm N t);
-      rows = r;
+      root = at-root N t;
+      rows = all-rows N t;
       few = omega (arith, can .room, mul-le-mul-right (t + 3) p, one-mul (t + 3));
-      fits = omega (arith, can .room);
+      fits = omega (arith, all-rows N t, can .room);
     }

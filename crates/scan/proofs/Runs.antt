@@ -69,22 +69,12 @@ rate01-same (some SPC) m L L′ P e = absurd (subst T (sym e) tt)
 rate01-same (some type-I) m L L′ P e = absurd (subst T (sym e) tt)
 rate01-same (some type-III) m L L′ P e = absurd (subst T (sym e) tt)
 
-pub walk-at-cut : (plan : List ℕ) (t p : ℕ) (mask : List ℕ) (P : Tree) (L : List Soft) → isCut plan p ≡ true → walk plan t p mask P L ≡ putKind (kindOf (2 ^ t) mask) (2 ^ t) L P
-unfolding walk
-walk-at-cut plan zero p mask P L e = refl
-walk-at-cut plan (suc t) p mask P L e = walk-cut plan t p mask P L e
-
 walk-constant : (plan : List ℕ) (t p : ℕ) (mask : List ℕ) (P : Tree) (L L′ : List Soft) → constant plan (2 ^ t) p mask ≡ true → walk plan t p mask P L ≡ walk plan t p mask P L′
 walk-constant plan t p mask P L L′ e =
     let c : T (constant plan (2 ^ t) p mask) = true-T (constant plan (2 ^ t) p mask) e in
     let q : isCut plan p ≡ true = T-true (isCut plan p) (and-l (isCut plan p) (isRate01 (kindOf (2 ^ t) mask)) c) in
     let r : isRate01 (kindOf (2 ^ t) mask) ≡ true = T-true (isRate01 (kindOf (2 ^ t) mask)) (and-r (isCut plan p) (isRate01 (kindOf (2 ^ t) mask)) c) in
-    walk-at-cut plan t p mask P L q ∙ rate01-same (kindOf (2 ^ t) mask) (2 ^ t) L L′ P r ∙ sym (walk-at-cut plan t p mask P L′ q)
-
-pub cut-some : (plan : List ℕ) (t p : ℕ) (mask : List ℕ) → isCut plan p ≡ true → T (wellCut plan t p mask) → T (isSome (kindOf (2 ^ t) mask))
-unfolding wellCut
-cut-some plan zero p mask e w = and-r (isCut plan p) (isSome (kindOf 1 mask)) w
-cut-some plan (suc t) p mask e w = wellCut-cut plan t p mask e w
+    walk-cut plan t p mask P L q ∙ rate01-same (kindOf (2 ^ t) mask) (2 ^ t) L L′ P r ∙ sym (walk-cut plan t p mask P L′ q)
 
 pub fit-room : {plan mask : List ℕ} {N t s p b x : ℕ} {w : List ℤ} → Room plan mask N t s p b x w → Fit N t b x (length w)
 fit-room r = record { fit = omega (arith, r .size, r .fit); rows = r .rows; within = omega (arith, r .size, r .within) }
@@ -286,8 +276,8 @@ module _ (plan mask : List ℕ) (N t s p b x : ℕ) (w : List ℤ) (room : Room 
 
   pub run-at : Run plan mask N (suc t) p b x w (2 ^ t) t (x + (2 ^ t + 2 ^ t))
   run-at = record {
-    kind-left = λ e. cut-some plan t (2 * p) (part mask b t) e wl;
-    kind-right = λ e. cut-some plan t (2 * p + 1) (part mask (b + 2 ^ t) t) e wr;
+    kind-left = λ e. wellCut-cut plan t (2 * p) (part mask b t) e wl;
+    kind-right = λ e. wellCut-cut plan t (2 * p + 1) (part mask (b + 2 ^ t) t) e wr;
     one = (words-list N t b x w fits w TA TB m₀ bd S lim, left-sums N t b x w fits w TA TB m₀ bd S lim UTB);
     two = room₁;
     three = λ s₁ k₁ w₁ w₂ e₁ v₂.

@@ -11,8 +11,6 @@ use lib.ListN.{length, take, drop}
 use Rattle.model.specs.Scan.{Tree, leaf, node, sweeps}
 use Rattle.model.specs.Kinds.{Kind, kindOf, shortcut}
 use Rattle.model.specs.Plans.{isCut, isRate01, wellCut, walk, Stays, Allowed}
-use Rattle.model.specs.Lists.{tabulate}
-use Rattle.model.specs.Soft.{Soft, finite}
 use Rattle.model.specs.Bounds.{SmallAll, Held, limit}
 use Rattle.words.specs.Words.{word, soft, stored}
 

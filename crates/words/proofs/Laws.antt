@@ -1,4 +1,4 @@
--- Laws of box and sum on words.
+-- Laws of box and sum on words. Assumes nothing.
 use mathlib.Core.Path.{_≡_, refl, sym, ap, _∙_, subst}
 use mathlib.Core.Logic.{_⊎_, inl, inr, ⊎-elim}
 use mathlib.Core.Bool.{Bool, true, false, cond}
@@ -6,20 +6,18 @@ use Prim.Native.Nat.{ℕ, suc, _+_, _≤_, _<_, min}
 use native.Mathlib.Omega.{arith}
 use lib.IntN.{ℤ, pos, negsuc, negℤ, natAbs, _+ℤ_, +ℤ-comm}
 use lib.Dec.{eqb}
-use lib.Signed.{ltZ}
 use borrow.Author.Tests.{eqb-true, ne-eqb}
 use mathlib.Core.List.{List}
 use Rattle.model.specs.Bounds.{Small, Under}
 use Rattle.model.proofs.Lists.{getD-tabulate}
 use Rattle.words.specs.Words.{Word, xor, softOf, boxWord, addWord, word, soft}
 use Rattle.model.specs.Soft.{mark, wordOf, Soft, finite, certain, softZero, _at_, box, boxℤ, plus, signed, negative, differ}
-use Rattle.words.proofs.Signed.{abs-neg, ltZ-zero}
 
 -- box of two words as numbers, with the sign as the machine finds it
 abbrev pub boxZ : ℤ → ℤ → ℤ
 boxZ a b = signed (xor (negative a) (negative b)) (min (natAbs a) (natAbs b))
 
-differ-xor : (a b : Bool) → differ a b ≡ xor a b
+pub differ-xor : (a b : Bool) → differ a b ≡ xor a b
 differ-xor true true = refl
 differ-xor true false = refl
 differ-xor false true = refl
@@ -37,9 +35,6 @@ soft-cases (pos n) = go (eqb n mark) refl
     go : (t : Bool) → eqb n mark ≡ t → ((pos n ≡ pos mark) × (softOf (pos n) ≡ certain)) ⊎ (softOf (pos n) ≡ finite (pos n))
     go true e = inl (ap pos (eqb-true n mark e), rw e)
     go false e = inr (rw e)
-
-pub soft-mark : softOf (pos mark) ≡ certain
-soft-mark = refl
 
 pub soft-fin : (z : ℤ) → (z ≡ pos mark → ⊥) → softOf z ≡ finite z
 soft-fin (negsuc n) h = refl
@@ -66,10 +61,6 @@ boxWord-is a b ha hb = go (soft-cases a) (soft-cases b)
     go (inr p) (inl q) = rw (p, q .1, q .0) (sym (box-mark-r a ha))
     go (inr p) (inr q) = rw (p, q) (boxℤ-is a b)
 
-pub addWord-l : (b : ℤ) → addWord (pos mark) b ≡ pos mark
-unfolding addWord plus
-addWord-l b = refl
-
 pub addWord-r : (a : ℤ) → addWord a (pos mark) ≡ pos mark
 unfolding addWord plus
 addWord-r a = ⊎-elim (λ p. rw (p .1)) (λ p. rw p) (soft-cases a)
@@ -83,17 +74,9 @@ pub add-by : (t : Bool) (a b : ℤ) → (t ≡ true → b ≡ pos mark) → (t �
 add-by true a b y n h = ap (λ (z : ℤ). z +ℤ pos 0) (y refl) ∙ sym (ap (addWord a) (y refl) ∙ addWord-r a)
 add-by false a b y n h = +ℤ-comm b a ∙ sym (addWord-fin a b (λ e. let f : natAbs a ≡ mark = ap natAbs e in omega arith) (n refl))
 
-pub abs-signed : (s : Bool) (n : ℕ) → natAbs (signed s n) ≡ n
-abs-signed true n = abs-neg (pos n)
-abs-signed false n = refl
-
 pub signed-is : (s : Bool) (n : ℕ) → cond s (negℤ (pos n)) (pos n) ≡ signed s n
 signed-is true n = refl
 signed-is false n = refl
-
--- the sign and the size put together
-pub box-of : (a b x y m : ℤ) → x ≡ a → y ≡ b → m ≡ pos (min (natAbs a) (natAbs b)) → cond (xor (ltZ x (pos 0)) (ltZ y (pos 0))) (negℤ m) m ≡ boxZ a b
-box-of a b x y m p q e = rw (p, q, e, ltZ-zero a, ltZ-zero b) (signed-is (xor (negative a) (negative b)) (min (natAbs a) (natAbs b)))
 
 -- ---- values read back from words
 -- a soft value of a size below the mark

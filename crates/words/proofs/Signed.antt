@@ -1,4 +1,4 @@
--- Signed words: what the machine reads back from bits, and bounds of negations and sums, over ℕ.
+-- Signed words: what the machine reads back from bits, and bounds of negations and sums, over ℕ. Assumes nothing.
 use mathlib.Core.Path.{_≡_, refl, sym, ap, _∙_, subst}
 use mathlib.Core.Bool.{Bool, true, false, cond, not, Bool·beq}
 use Prim.Native.Nat.{ℕ, zero, suc, _^_, _<_, min, zero-le}
@@ -8,7 +8,7 @@ use lib.Signed.{mag, ltZ}
 use lib.Dec.{T, ltb}
 use borrow.Author.Tests.{ltb-true, ltb-false, le-ltb}
 use mir.Syntax.{w16, w32}
-use mir.Val.{SFits, ofZ, toZ, boolByte}
+use mir.Val.{SFits, ofZ, toZ}
 use mir.Facts.{toZ-ofZ}
 use Rattle.words.specs.Words.{Word}
 use Rattle.model.specs.Soft.{mark, negative, signed}
@@ -38,14 +38,6 @@ pub abs-no : (z : ℤ) → negative z ≡ false → z ≡ pos (natAbs z)
 abs-no (pos n) e = refl
 abs-no (negsuc n) e = absurd (subst T e tt)
 
--- the smaller of two sizes
-pub min-pos : (m n : ℕ) → cond (ltb m n) (pos m) (pos n) ≡ pos (min m n)
-min-pos m n = go (ltb m n) refl
-  where
-    go : (t : Bool) → ltb m n ≡ t → cond t (pos m) (pos n) ≡ pos (min m n)
-    go true e = ap pos (omega (arith, ltb-true m n e))
-    go false e = ap pos (omega (arith, ltb-false m n e))
-
 -- the test `z == 2147483647`, which is of the bits
 pub mark-yes : (z : ℤ) → SFits w32 z → ofZ w32 z ≡ mark → z ≡ pos mark
 mark-yes (pos n) f e = ap pos e
@@ -53,9 +45,6 @@ mark-yes (negsuc n) f e = absurd (omega (arith, f .sfits))
 
 pub mark-no : (z : ℤ) → (ofZ w32 z ≡ mark → ⊥) → z ≡ pos mark → ⊥
 mark-no z h e = h (ap (ofZ w32) e)
-
-pub min-of : (x y : ℤ) (m n : ℕ) → x ≡ pos m → y ≡ pos n → cond (ltZ x y) x y ≡ pos (min m n)
-min-of x y m n p q = rw (p, q) (min-pos m n)
 
 -- what is read back from the bits of a number that fits: of an element's `.given` and of a call's `.ok`
 pub back : {z : ℤ} → mag z < 2 ^ 31 → toZ w32 (ofZ w32 z) ≡ z
@@ -67,11 +56,6 @@ back16 h = toZ-ofZ (record { sfits = h })
 -- the cast of an i16 to an i32
 pub wide16 : (z : ℤ) → mag z < 2 ^ 15 → SFits w32 (toZ w16 (ofZ w16 z))
 wide16 z h = rw (back16 h) (let g : mag z < 2 ^ 31 = omega arith in record { sfits = g })
-
--- a bool as a byte
-pub bit-byte : (t : Bool) → boolByte t ≡ cond t 1 0
-bit-byte true = refl
-bit-byte false = refl
 
 pub back-wide : {z : ℤ} → mag z < 2 ^ 15 → toZ w32 (ofZ w32 (toZ w16 (ofZ w16 z))) ≡ z
 back-wide {z} h = toZ-ofZ (wide16 z h) ∙ back16 h

@@ -1,23 +1,12 @@
-// 32-bit words that hold soft values; the routines that combine halves; the messages of the kinds.
+// 32-bit words that hold soft values, and the loops that load, copy and combine them.
 ghost use mathlib.Core.Path.{_≡_};
-ghost use mathlib.Core.Bool.{Bool, cond};
-ghost use Prim.Native.Nat.{ℕ, _+_, _<_, _≤_, _%_, min, max};
-ghost use lib.IntN.{ℤ, pos, negsuc, natAbs, negℤ, _+ℤ_, _-ℤ_};
+ghost use mathlib.Core.Bool.{cond};
+ghost use Prim.Native.Nat.{ℕ, _+_, _<_, _≤_};
 ghost use lib.Signed.{ltZ};
 ghost use lib.ListN.{length, getD};
+ghost use Rattle.model.specs.Soft.{wordOf};
 ghost use Rattle.model.specs.Scan.{leafValue};
-ghost use Rattle.model.specs.Kinds.{shortcut, rate-0, rate-1, REP, SPC, type-I, type-III};
-ghost use Rattle.words.specs.Words.{boxWord, addWord, Word, Added, word, soft, write, stored, Apart, boxAt, boxPlus, plusBox, plusFront, Words, Finite, Sums, BoxSums, FiniteBoxSums, Incoming};
-ghost use Rattle.model.specs.Soft.{mark, wordOf};
-ghost use Rattle.words.specs.Sums.{strided, sumZ, sizes, least, next, parity, isOdd, leaveOut};
-
-// The size of a word.
-fn abs_word(a: i32) -> i32
-    requires { ⌜ Word a ⌝ }
-    ensures { λ r. ⌜ r ≡ pos (natAbs a) ⌝ }
-{
-    if a < 0 { -a } else { a }
-}
+ghost use Rattle.words.specs.Words.{boxWord, addWord, Word, Added, word, write, Apart, boxAt, boxPlus, plusBox, plusFront, Words, Finite, Sums, BoxSums, FiniteBoxSums};
 
 fn min_word(a: i32, b: i32) -> i32
     ensures { λ r. ⌜ r ≡ cond (ltZ a b) a b ⌝ }
@@ -31,14 +20,6 @@ fn max_word(a: i32, b: i32) -> i32
     if a < b { b } else { a }
 }
 
-// -m if neg, else m
-fn with_sign(neg: bool, m: i32) -> i32
-    requires { ⌜ Word m ⌝ }
-    ensures { λ r. ⌜ r ≡ cond neg (negℤ m) m ⌝ }
-{
-    if neg { -m } else { m }
-}
-
 fn box_words(a: i32, b: i32) -> i32
     requires { ⌜ Word a ⌝ }
     requires { ⌜ Word b ⌝ }
@@ -47,6 +28,13 @@ fn box_words(a: i32, b: i32) -> i32
     let low = min_word(a, b);
     let high = max_word(a, b);
     max_word(low, -high)
+}
+
+// x if b, else y
+pub fn pick_word(b: bool, x: i32, y: i32) -> i32
+    ensures { λ r. ⌜ r ≡ cond b x y ⌝ }
+{
+    if b { x } else { y }
 }
 
 pub fn add_words(a: i32, b: i32) -> i32
@@ -139,226 +127,16 @@ pub fn node_message(w: &mut [i32], m: usize, x: usize, l: usize, h: usize)
     }
 }
 
-// The sum over the places c, c + d + 1, ..
-fn class_sum(l: &[i32], d: usize, c: usize) -> i32
-    requires { ⌜ (d ≤ 1) × (c ≤ d) ⌝ }
-    requires { ⌜ sizes (strided d c (now l)) ≤ mark ⌝ }
-    ensures { λ r. ⌜ r ≡ sumZ (strided d c (now (l .entry))) ⌝ }
-{
-    let mut t = 0i32;
-    let mut i = c;
-    while i < l.len() {
-        t += l[i];
-        i += d + 1;
-    }
-    t
-}
-
-fn size_word(a: i32) -> u32
-    requires { ⌜ Word a ⌝ }
-    ensures { λ r. ⌜ r ≡ natAbs a ⌝ }
-{
-    abs_word(a) as u32
-}
-
-fn min_size(a: u32, b: u32) -> u32
-    ensures { λ r. ⌜ r ≡ min a b ⌝ }
-{
-    if a < b { a } else { b }
-}
-
-fn max_size(a: u32, b: u32) -> u32
-    ensures { λ r. ⌜ r ≡ max a b ⌝ }
-{
-    if a < b { b } else { a }
-}
-
-struct Gathered {
-    least: u32,
-    next: u32,
-    neg: bool,
-}
-
-// The two least sizes and the parity of the signs, over the places c, c + d + 1, ..
-fn gather(l: &[i32], d: usize, c: usize) -> Gathered
-    requires { ⌜ (d ≤ 1) × (c ≤ d) ⌝ }
-    requires { ⌜ ((k : ℕ) → Word (word (now l) k)) ⌝ }
-    ensures { λ r. ⌜ (r .least ≡ least (strided d c (now (l .entry)))) × (r .next ≡ next (strided d c (now (l .entry)))) × (r .neg ≡ parity (strided d c (now (l .entry)))) ⌝ }
-{
-    let mut m1 = 2147483647u32;
-    let mut m2 = 2147483647u32;
-    let mut neg = false;
-    let mut i = c;
-    while i < l.len() {
-        let x = l[i];
-        let s = size_word(x);
-        m2 = min_size(m2, max_size(s, m1));
-        m1 = min_size(s, m1);
-        neg = (x < 0) != neg;
-        i += d + 1;
-    }
-    Gathered {
-        least: m1,
-        next: m2,
-        neg,
-    }
-}
-
-// The value of SPC at a place that holds x.
-fn leave_out(x: i32, m1: u32, m2: u32, neg: bool) -> i32
-    requires { ⌜ Word x ⌝ }
-    requires { ⌜ (m1 ≤ mark) × (m2 ≤ mark) ⌝ }
-    ensures { λ r. ⌜ r ≡ leaveOut m1 m2 neg x ⌝ }
-{
-    let s = size_word(x);
-    let m = pick_size(s == m1, m2, m1);
-    with_sign(neg != (x < 0), m as i32)
-}
-
-fn pick_size(b: bool, x: u32, y: u32) -> u32
-    ensures { λ r. ⌜ r ≡ cond b x y ⌝ }
-{
-    if b { x } else { y }
-}
-
-fn pick_word(b: bool, x: i32, y: i32) -> i32
-    ensures { λ r. ⌜ r ≡ cond b x y ⌝ }
-{
-    if b { x } else { y }
-}
-
-fn pick_bool(b: bool, x: bool, y: bool) -> bool
-    ensures { λ r. ⌜ r ≡ cond b x y ⌝ }
-{
-    if b { x } else { y }
-}
-
-// w[m + k] = v
-pub fn fill(w: &mut [i32], m: usize, s: usize, v: i32)
+// w[m + k] = value
+pub fn fill(w: &mut [i32], m: usize, s: usize, value: i32)
     requires { ⌜ m + s ≤ length (now w) ⌝ }
-    ensures { λ _. ⌜ now (w .exit) ≡ write (now (w .entry)) m s (λ k. v) ⌝ }
+    ensures { λ _. ⌜ now (w .exit) ≡ write (now (w .entry)) m s (λ k. value) ⌝ }
 {
     let mut k = 0;
     while k < s {
-        w[m + k] = v;
+        w[m + k] = value;
         k += 1;
     }
-}
-
-// w[m + k] = t - w[x + k], with t = a at even places and b at odd ones
-fn subtract(w: &mut [i32], m: usize, x: usize, s: usize, a: i32, b: i32)
-    requires { ⌜ (m + s ≤ x) × (x + s ≤ length (now w)) ⌝ }
-    requires { ⌜ ((k : ℕ) → k < s → Word (cond (isOdd k) b a -ℤ word (now w) (x + k))) ⌝ }
-    ensures { λ _. ⌜ now (w .exit) ≡ write (now (w .entry)) m s (λ k. cond (isOdd k) b a -ℤ word (now (w .entry)) (x + k)) ⌝ }
-{
-    let mut k = 0;
-    while k < s {
-        let t = pick_word(k % 2 == 1, b, a);
-        let v = t - w[x + k];
-        w[m + k] = v;
-        k += 1;
-    }
-}
-
-// w[m + k] = the value of SPC at w[x + k], with what was gathered at even places (a1, a2, an) and at odd ones
-fn spread(
-    w: &mut [i32],
-    m: usize,
-    x: usize,
-    s: usize,
-    a1: u32,
-    a2: u32,
-    an: bool,
-    b1: u32,
-    b2: u32,
-    bn: bool,
-)
-    requires { ⌜ (m + s ≤ x) × (x + s ≤ length (now w)) ⌝ }
-    requires { ⌜ Words (now w) x s ⌝ }
-    requires { ⌜ (a1 ≤ mark) × (a2 ≤ mark) × (b1 ≤ mark) × (b2 ≤ mark) ⌝ }
-    ensures { λ _. ⌜ now (w .exit) ≡ write (now (w .entry)) m s (λ k. leaveOut (cond (isOdd k) b1 a1) (cond (isOdd k) b2 a2) (cond (isOdd k) bn an) (word (now (w .entry)) (x + k))) ⌝ }
-{
-    let mut k = 0;
-    while k < s {
-        let odd = k % 2 == 1;
-        let m1 = pick_size(odd, b1, a1);
-        let m2 = pick_size(odd, b2, a2);
-        let neg = pick_bool(odd, bn, an);
-        let v = leave_out(w[x + k], m1, m2, neg);
-        w[m + k] = v;
-        k += 1;
-    }
-}
-
-// The message of a rate-0 node: certain everywhere.
-pub fn rate_zero_message(w: &mut [i32], m: usize, x: usize, s: usize)
-    requires { ⌜ (m + s ≤ x) × (x + s ≤ length (now w)) ⌝ }
-    ensures { λ _. ⌜ now (w .exit) ≡ stored (now (w .entry)) m s (shortcut rate-0 s (soft (now (w .entry)) x s)) ⌝ }
-{
-    fill(w, m, s, 2147483647);
-}
-
-// The message of a rate-1 node: 0 everywhere.
-pub fn rate_one_message(w: &mut [i32], m: usize, x: usize, s: usize)
-    requires { ⌜ (m + s ≤ x) × (x + s ≤ length (now w)) ⌝ }
-    ensures { λ _. ⌜ now (w .exit) ≡ stored (now (w .entry)) m s (shortcut rate-1 s (soft (now (w .entry)) x s)) ⌝ }
-{
-    fill(w, m, s, 0);
-}
-
-// The message of a REP node: the sum of the other incoming values.
-pub fn rep_message(w: &mut [i32], m: usize, x: usize, s: usize)
-    requires { ⌜ (m + s ≤ x) × (x + s ≤ length (now w)) ⌝ }
-    requires { ⌜ Incoming (now w) x s ⌝ }
-    ensures { λ _. ⌜ now (w .exit) ≡ stored (now (w .entry)) m s (shortcut REP s (soft (now (w .entry)) x s)) ⌝ }
-{
-    let e = x + s;
-    let t = class_sum(&w[x..e], 0, 0);
-    subtract(w, m, x, s, t, t);
-}
-
-// The message of an SPC node: box over the other incoming values.
-pub fn spc_message(w: &mut [i32], m: usize, x: usize, s: usize)
-    requires { ⌜ (m + s ≤ x) × (x + s ≤ length (now w)) ⌝ }
-    requires { ⌜ Incoming (now w) x s ⌝ }
-    ensures { λ _. ⌜ now (w .exit) ≡ stored (now (w .entry)) m s (shortcut SPC s (soft (now (w .entry)) x s)) ⌝ }
-{
-    let e = x + s;
-    let g = gather(&w[x..e], 0, 0);
-    let m1 = g.least;
-    let m2 = g.next;
-    let neg = g.neg;
-    spread(w, m, x, s, m1, m2, neg, m1, m2, neg);
-}
-
-// The message of a type I node: REP over even and over odd places.
-pub fn type_one_message(w: &mut [i32], m: usize, x: usize, s: usize)
-    requires { ⌜ (m + s ≤ x) × (x + s ≤ length (now w)) ⌝ }
-    requires { ⌜ Incoming (now w) x s ⌝ }
-    ensures { λ _. ⌜ now (w .exit) ≡ stored (now (w .entry)) m s (shortcut type-I s (soft (now (w .entry)) x s)) ⌝ }
-{
-    let e = x + s;
-    let a = class_sum(&w[x..e], 1, 0);
-    let b = class_sum(&w[x..e], 1, 1);
-    subtract(w, m, x, s, a, b);
-}
-
-// The message of a type III node: SPC over even and over odd places.
-pub fn type_three_message(w: &mut [i32], m: usize, x: usize, s: usize)
-    requires { ⌜ (m + s ≤ x) × (x + s ≤ length (now w)) ⌝ }
-    requires { ⌜ Incoming (now w) x s ⌝ }
-    ensures { λ _. ⌜ now (w .exit) ≡ stored (now (w .entry)) m s (shortcut type-III s (soft (now (w .entry)) x s)) ⌝ }
-{
-    let e = x + s;
-    let a = gather(&w[x..e], 1, 0);
-    let b = gather(&w[x..e], 1, 1);
-    let a1 = a.least;
-    let a2 = a.next;
-    let an = a.neg;
-    let b1 = b.least;
-    let b2 = b.next;
-    let bn = b.neg;
-    spread(w, m, x, s, a1, a2, an, b1, b2, bn);
 }
 
 // w[m + k] = llrs[k]

@@ -59,7 +59,7 @@ returns c =
     let l = c .before in
     let a = l .before .before .before .args in
     bit-bool (eqb (l .loop .most) 0)
-    ∙ ap bit (sym (l .loop .inv .1 ∙ check-end (a .mask .now) (a .u .now) (l .loop .i) (l .loop .most) (search needs) (search needs)))
+    ∙ ap bit (sym (l .loop .inv .1 ∙ check-end (a .mask .now) (a .u .now) (l .loop .i) (l .loop .most) (search needs)))
 
 pub frozen-check-spec : {M : Type 1} → statement M
 frozen-check-spec =

@@ -8,7 +8,7 @@ use borrow.Author.Tests.{not-true, not-false}
 use lib.ListN.{length, take}
 use lib.Seq.{length-take-le}
 use Rattle.model.specs.Lists.{atMost, over}
-use Rattle.model.specs.Encoding.{unfrozen, encode}
+use Rattle.model.specs.Encoding.{maxMask, unfrozen, encode}
 use Rattle.model.specs.Refusals.{exponent, encodeNumber}
 use Rattle.model.proofs.Lists.{true-T}
 use Rattle.model.proofs.Refusals.{exponent-power}
@@ -33,14 +33,14 @@ start4 c = start3 (c .before .before)
 ok1 : (c : tie.Else1) → exponent (length (start1 c .args .mask .now)) ≡ 0 → ⊥
 ok1 c e = c .if1 .left (c .before .exponent-of .ensures ∙ e)
 
-ok2 : (c : tie.Else2) → atMost 1 (start2 c .args .mask .now) ≡ true
-ok2 c = sym (c .before .at-most .ensures) ∙ not-false (c .before .at-most .result) (c .if2 .left)
+ok2 : (c : tie.Else2) → atMost maxMask (start2 c .args .mask .now) ≡ true
+ok2 c = sym (c .before .mask-bytes .ensures) ∙ not-false (c .before .mask-bytes .result) (c .if2 .left)
 
 ok3 : (c : tie.Else3) → length (start3 c .args .payload .now) ≡ unfrozen (start3 c .args .mask .now)
 ok3 c = c .if3 .left ∙ c .before .unfrozen-of .ensures
 
 ok4 : (c : tie.Else4) → atMost 1 (start4 c .args .payload .now) ≡ true
-ok4 c = sym (c .before .at-most2 .ensures) ∙ not-false (c .before .at-most2 .result) (c .if4 .left)
+ok4 c = sym (c .before .at-most .ensures) ∙ not-false (c .before .at-most .result) (c .if4 .left)
 
 power : (c : tie.Else1) → length (start1 c .args .mask .now) ≡ 2 ^ c .before .exponent-of .result
 power c =
@@ -56,8 +56,8 @@ returns c =
     refused (a .mask .now) (a .payload .now) (a .word .now) 0
     (number-1 (a .mask .now) (a .payload .now) (length (a .word .now)) (sym (c .before .exponent-of .ensures) ∙ c .if1 .taken))
 
-at-most-requires : tie.Need-at-most-requires
-at-most-requires c κs = search needs
+mask-bytes-requires : tie.Need-mask-bytes-requires
+mask-bytes-requires c κs = search needs
 
 returns-2 : tie.Need-returns-2
 unfolding numberOf
@@ -66,7 +66,7 @@ returns-2 c =
     let a = start1 e1 .args in
     refused (a .mask .now) (a .payload .now) (a .word .now) 1
     (number-2 (a .mask .now) (a .payload .now) (length (a .word .now)) (ok1 e1)
-    (sym (c .before .at-most .ensures) ∙ not-true (c .before .at-most .result) (c .if2 .taken)))
+    (sym (c .before .mask-bytes .ensures) ∙ not-true (c .before .mask-bytes .result) (c .if2 .taken)))
 
 unfrozen-of-requires : tie.Need-unfrozen-of-requires
 unfrozen-of-requires c κs = search needs
@@ -80,8 +80,8 @@ returns-3 c =
     (number-3 (a .mask .now) (a .payload .now) (length (a .word .now)) (ok1 (e2 .before .before)) (ok2 e2)
     (λ e. c .if3 .taken (e ∙ sym (c .before .unfrozen-of .ensures))))
 
-at-most-requires-2 : tie.Need-at-most-requires-2
-at-most-requires-2 c κs = search needs
+at-most-requires : tie.Need-at-most-requires
+at-most-requires c κs = search needs
 
 returns-4 : tie.Need-returns-4
 unfolding numberOf
@@ -91,7 +91,7 @@ returns-4 c =
     let a = start3 e3 .args in
     refused (a .mask .now) (a .payload .now) (a .word .now) 9
     (number-10 (a .mask .now) (a .payload .now) (length (a .word .now)) (ok1 (e2 .before .before)) (ok2 e2) (ok3 e3)
-    (sym (c .before .at-most2 .ensures) ∙ not-true (c .before .at-most2 .result) (c .if4 .taken)))
+    (sym (c .before .at-most .ensures) ∙ not-true (c .before .at-most .result) (c .if4 .taken)))
 
 returns-5 : tie.Need-returns-5
 unfolding numberOf
@@ -158,5 +158,5 @@ returns-6 c =
 pub encode-spec : {M : Type 1} → statement M
 encode-spec =
     tie.close
-    (tie.spec exponent-of-requires returns at-most-requires returns-2 unfrozen-of-requires returns-3 at-most-requires-2 returns-4 returns-5 place-bits-requires
+    (tie.spec exponent-of-requires returns mask-bytes-requires returns-2 unfrozen-of-requires returns-3 at-most-requires returns-4 returns-5 place-bits-requires
     slice-relend-prefix-strides slice-aggregate-strides strides-requires same-length returns-6)

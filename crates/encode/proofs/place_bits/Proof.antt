@@ -34,14 +34,14 @@ bit-for-requires c κs =
 slice-write-word : tie.Need-slice-write-word Inv-loop μ-loop
 slice-write-word c = search needs
 
-takes-requires : tie.Need-takes-requires Inv-loop μ-loop
-takes-requires c κs = search needs
+unfrozen-bit-requires : tie.Need-unfrozen-bit-requires Inv-loop μ-loop
+unfrozen-bit-requires c κs = search needs
 
 add-next : tie.Need-add-next Inv-loop μ-loop
 add-next c =
     let l = c .before .before .before .before in
     let mask = l .before .before .before .before .args .mask .now in
-    omega (arith, c .takes .ensures, unfrozen-more (l .loop .next) mask (l .loop .i) (search needs))
+    omega (arith, c .unfrozen-bit .ensures, unfrozen-more (l .loop .next) mask (l .loop .i) (search needs))
 
 add-i : tie.Need-add-i Inv-loop μ-loop
 add-i c = search needs
@@ -59,10 +59,10 @@ loop-again c =
     let more = unfrozen-more (l .loop .next) mask (l .loop .i) (search needs) in (
       search needs,
       length-set (l .loop .word) (l .loop .i) v ∙ l .loop .inv .1,
-      omega (arith, c .takes .ensures, more),
+      omega (arith, c .unfrozen-bit .ensures, more),
       l .loop .inv .3
           ∙ place-more mask payload (l .loop .word) (l .loop .next) (l .loop .i) v (search needs) (omega arith) (c .before .bit-for .ensures)
-          ∙ ap (λ (n : ℕ). Rest mask payload (set (l .loop .word) (l .loop .i) v) (l .loop .next + n) (l .loop .i + 1)) (sym (c .takes .ensures)),
+          ∙ ap (λ (n : ℕ). Rest mask payload (set (l .loop .word) (l .loop .i) v) (l .loop .next + n) (l .loop .i + 1)) (sym (c .unfrozen-bit .ensures)),
     )
 
 same-length : tie.Need-same-length Inv-loop μ-loop
@@ -77,5 +77,5 @@ returns c =
 pub place-bits-spec : {M : Type 1} → statement M
 place-bits-spec =
     tie.close
-    (tie.spec Inv-loop μ-loop loop-holds shared-slice-read-byte bit-for-requires slice-write-word takes-requires add-next add-i loop-less
+    (tie.spec Inv-loop μ-loop loop-holds shared-slice-read-byte bit-for-requires slice-write-word unfrozen-bit-requires add-next add-i loop-less
     loop-again same-length returns)

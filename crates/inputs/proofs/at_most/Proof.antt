@@ -44,7 +44,7 @@ returns : tie.Need-returns Inv-loop μ-loop
 returns c =
     let l = c .before in
     let a = l .before .before .args in
-    sym (l .loop .inv .1 ∙ at-most-end (a .top) (l .loop .most) (a .bytes .now) (l .loop .i) (search needs) (search needs))
+    sym (l .loop .inv .1 ∙ at-most-end (a .top) (l .loop .most) (a .bytes .now) (l .loop .i) (search needs))
 
 pub at-most-spec : {M : Type 1} → statement M
 at-most-spec =

@@ -5,7 +5,8 @@ use native.Mathlib.Omega.{arith}
 use borrow.Author.Needs.{needs}
 use lib.ListN.{length, getD, drop}
 use Rattle.model.specs.Encoding.{unfrozen, isUnfrozen}
-use Rattle.inputs.proofs.Folds.{unfrozen-more, unfrozen-end, bit-small}
+use Rattle.model.proofs.Lists.{bit-small}
+use Rattle.inputs.proofs.Folds.{unfrozen-more, unfrozen-end}
 use Rattle.inputs.proofs.unfrozen_of.Statement.{statement}
 use Rattle.inputs.proofs.unfrozen_of.Tie as tie
 
@@ -18,16 +19,16 @@ abbrev μ-loop : tie.MeasureT-loop
 loop-holds : tie.Need-loop-holds Inv-loop μ-loop
 loop-holds c = (search needs, search needs, omega arith)
 
-shared-slice-read-counted : tie.Need-shared-slice-read-counted Inv-loop μ-loop
-shared-slice-read-counted c = search needs
+shared-slice-read-unfrozen-bit : tie.Need-shared-slice-read-unfrozen-bit Inv-loop μ-loop
+shared-slice-read-unfrozen-bit c = search needs
 
-counted-requires : tie.Need-counted-requires Inv-loop μ-loop
-counted-requires c κs = search needs
+unfrozen-bit-requires : tie.Need-unfrozen-bit-requires Inv-loop μ-loop
+unfrozen-bit-requires c κs = search needs
 
 add-k : tie.Need-add-k Inv-loop μ-loop
 add-k c =
     let l = c .before .before .before in
-    omega (arith, c .counted .ensures, bit-small (isUnfrozen (getD (l .before .before .args .mask .now) (l .loop .i) 0)))
+    omega (arith, c .unfrozen-bit .ensures, bit-small (isUnfrozen (getD (l .before .before .args .mask .now) (l .loop .i) 0)))
 
 add-i : tie.Need-add-i Inv-loop μ-loop
 add-i c = search needs
@@ -40,18 +41,18 @@ loop-again c =
     let l = c .before .before .before in
     let mask = l .before .before .args .mask .now in (
       search needs,
-      omega (arith, c .counted .ensures, bit-small (isUnfrozen (getD mask (l .loop .i) 0))),
+      omega (arith, c .unfrozen-bit .ensures, bit-small (isUnfrozen (getD mask (l .loop .i) 0))),
       l .loop .inv .2 ∙ unfrozen-more (l .loop .k) mask (l .loop .i) (search needs)
-          ∙ ap (λ (b : ℕ). l .loop .k + b + unfrozen (drop (l .loop .i + 1) mask)) (sym (c .counted .ensures)),
+          ∙ ap (λ (b : ℕ). l .loop .k + b + unfrozen (drop (l .loop .i + 1) mask)) (sym (c .unfrozen-bit .ensures)),
     )
 
 returns : tie.Need-returns Inv-loop μ-loop
 returns c =
     let l = c .before in
     let a = l .before .before .args in
-    sym (l .loop .inv .2 ∙ unfrozen-end (l .loop .k) (a .mask .now) (l .loop .i) (search needs) (search needs))
+    sym (l .loop .inv .2 ∙ unfrozen-end (l .loop .k) (a .mask .now) (l .loop .i) (search needs))
 
 pub unfrozen-of-spec : {M : Type 1} → statement M
 unfrozen-of-spec =
     tie.close
-    (tie.spec Inv-loop μ-loop loop-holds shared-slice-read-counted counted-requires add-k add-i loop-less loop-again returns)
+    (tie.spec Inv-loop μ-loop loop-holds shared-slice-read-unfrozen-bit unfrozen-bit-requires add-k add-i loop-less loop-again returns)

@@ -5,7 +5,8 @@ use borrow.Author.Needs.{needs}
 use lib.ListN.{drop}
 use lib.Seq.{length-take-le}
 use Rattle.kinds.specs.Runs.{allAre}
-use Rattle.kinds.proofs.Runs.{run-parts, to-end}
+use Rattle.model.proofs.Lists.{take-left}
+use Rattle.kinds.proofs.Runs.{run-parts}
 use Rattle.kinds.proofs.is_run.Statement.{statement}
 use Rattle.kinds.proofs.is_run.Tie as tie
 
@@ -32,7 +33,7 @@ returns c =
     let d = c .before .before in
     let s = d .before .before .before .before in
     let mask = s .args .mask .now in
-    c .all-are2 .ensures ∙ ap (allAre 0) (to-end mask (s .args .f))
+    c .all-are2 .ensures ∙ ap (allAre 0) (take-left mask (s .args .f))
     ∙ ap (λ (z : Bool). z && allAre 0 (drop (s .args .f) mask)) (sym (d .if1 .taken) ∙ d .before .all-are .ensures)
     ∙ sym (run-parts mask (s .args .f) (s .pre))
 

@@ -13,7 +13,7 @@ use Rattle.plans.proofs.cost_at.Reads as cost-at
 use Rattle.plans.proofs.cost_at.Kinds as cost-at-kinds
 use Rattle.plans.proofs.+cost_at.Lts-cost_at as cost-at-lts
 use Rattle.kinds.proofs.kind_of.Reads as kind-of-reads
-use Rattle.plans.proofs.both.Reads as both-reads
+use Rattle.inputs.proofs.both.Reads as both-reads
 use Rattle.plans.proofs.cut_cost.Reads as cut-cost-reads
 use Rattle.plans.proofs.joined.Reads as joined-reads
 use Rattle.plans.proofs.no_cut_below.Reads as no-cut-below-reads

@@ -12,14 +12,14 @@ exponent-of-requires c κs = search needs
 returns : tie.Need-returns
 returns c = let a = c .before .before .before .before .args in check-1 (a .mask .now) (a .plan .now) (c .before .exponent-of .ensures) (c .if1 .taken)
 
-at-most-requires : tie.Need-at-most-requires
-at-most-requires c κs = search needs
+mask-bytes-requires : tie.Need-mask-bytes-requires
+mask-bytes-requires c κs = search needs
 
 returns-2 : tie.Need-returns-2
 returns-2 c =
     let d = c .before .before in
     let a = d .before .before .before .before .args in
-    let told = c .before .at-most in
+    let told = c .before .mask-bytes in
     check-2 (a .mask .now) (a .plan .now) (d .before .exponent-of .ensures) (d .if1 .left) (sym (told .ensures) ∙ not-true (told .result) (c .if2 .taken))
 
 fault-of-requires : tie.Need-fault-of-requires
@@ -29,7 +29,7 @@ fault-of-requires c κs =
 
 returns-3 : tie.Need-returns-3
 returns-3 c =
-    let told = c .before .before .at-most in
+    let told = c .before .before .mask-bytes in
     let d = c .before .before .before in
     let a = d .before .before .before .before .args in
     check-fault (a .mask .now) (a .plan .now) (d .before .exponent-of .ensures) (d .if1 .left)
@@ -38,4 +38,4 @@ returns-3 c =
 pub check-plan-spec : {M : Type 1} → statement M
 check-plan-spec =
     tie.close
-    (tie.spec exponent-of-requires returns at-most-requires returns-2 fault-of-requires returns-3)
+    (tie.spec exponent-of-requires returns mask-bytes-requires returns-2 fault-of-requires returns-3)

@@ -19,14 +19,14 @@ exponent-of-requires c κs = search needs
 returns : tie.Need-returns
 returns c = let a = c .before .before .before .before .args in plan-1 (a .mask .now) (a .plan .now) (c .before .exponent-of .ensures) (c .if1 .taken)
 
-at-most-requires : tie.Need-at-most-requires
-at-most-requires c κs = search needs
+mask-bytes-requires : tie.Need-mask-bytes-requires
+mask-bytes-requires c κs = search needs
 
 returns-2 : tie.Need-returns-2
 returns-2 c =
     let d = c .before .before in
     let a = d .before .before .before .before .args in
-    let told = c .before .at-most in
+    let told = c .before .mask-bytes in
     plan-2 (a .mask .now) (a .plan .now) (d .before .exponent-of .ensures) (d .if1 .left) (sym (told .ensures) ∙ not-true (told .result) (c .if2 .taken))
 
 mul-size : tie.Need-mul-size
@@ -34,7 +34,7 @@ mul-size c = search needs
 
 -- row 2 was passed
 bytes : (c : tie.Else2) → atMost maxMask (c .before .before .before .before .before .before .args .mask .now) ≡ true
-bytes c = let told = c .before .at-most in sym (told .ensures) ∙ not-false (told .result) (c .if2 .left)
+bytes c = let told = c .before .mask-bytes in sym (told .ensures) ∙ not-false (told .result) (c .if2 .left)
 
 returns-3 : tie.Need-returns-3
 returns-3 c =
@@ -71,7 +71,7 @@ plan-mask-spec =
     (tie.spec
     exponent-of-requires
     returns
-    at-most-requires
+    mask-bytes-requires
     returns-2
     mul-size
     returns-3

@@ -14,7 +14,8 @@ use Rattle.model.specs.Kinds.{Kind, isSome, kindOf}
 use Rattle.model.specs.Plans.{isRate01}
 use Rattle.scan.specs.Space.{part, cutWords}
 use Rattle.scan.proofs.Nodes.{Geo, geo, inside}
-use Rattle.scan.proofs.Runs.{Run, run, cut-some}
+use Rattle.model.proofs.Paths.{wellCut-cut}
+use Rattle.scan.proofs.Runs.{Run, run}
 use Rattle.scan.proofs.Cuts.{not-leaf, kind-part, kind-stage, incoming, visited-cut}
 use Rattle.scan.proofs.+visit.{statement}
 use Rattle.scan.proofs.+visit.Tie.{close}
@@ -114,7 +115,7 @@ module _ (t : ℕ) where
       let a = start .args in
       let room = start .pre .1 in
       subst (λ (o : Option Kind). T (isSome o)) (sym (kind-part (a .mask .now) (a .b) (a .s) (room .masked) ∙ kind-stage (a .mask .now) (a .b) (a .s) (a .t) (room .size)))
-      (cut-some (a .plan .now) (a .t) (a .p) (part (a .mask .now) (a .b) (a .t)) (eq-eqb (getD (a .plan .now) (a .p) 0) 1 (c .before .if1 .taken)) (room .cuts))
+      (wellCut-cut (a .plan .now) (a .t) (a .p) (part (a .mask .now) (a .b) (a .t)) (eq-eqb (getD (a .plan .now) (a .p) 0) 1 (c .before .if1 .taken)) (room .cuts))
 
   visit-cut-message-requires : visit-lts.Need-cut-message-requires (around t) (visit-at t) visit.Post
   visit-cut-message-requires c κs =

@@ -1,3 +1,4 @@
+-- `scan::soft_values` meets its contract: each step hands on the words that the next one asks for. Assumes nothing.
 use mathlib.Core.Path.{_∙_}
 use native.Mathlib.Omega.{arith}
 use Rattle.scan.proofs.Rounds.{sizes-of, ready, answered, cleared}

@@ -1,3 +1,4 @@
+-- `scan::sweep` meets its contract: the root has the whole mask and the list past the rows. Assumes nothing.
 use native.Mathlib.Omega.{arith}
 use Rattle.scan.proofs.Rounds.{stages, root-room, swept-one}
 use borrow.Author.Needs.{needs}

@@ -1,3 +1,4 @@
+-- `scan::sweeps` meets its contract. The loop's invariant: k sweeps are done. Assumes nothing.
 use Prim.Native.Nat.{ℕ, _-_, _≤_}
 use mathlib.Core.Path.{subst}
 use native.Mathlib.Nat.{le-antisymm}

@@ -1,3 +1,4 @@
+-- `words::add_front` meets its contract. The loop's invariant: the first k sums are stored. Assumes nothing.
 use Rattle.words.proofs.Signed.{back}
 use mathlib.Core.Path.{_≡_, refl, ap, ap₂, _∙_}
 use lib.IntN.{pos}

@@ -1,3 +1,4 @@
+-- `words::add_words` meets its contract: the sum by one choice, of 0 or a, is that of the two words, as a is finite. Assumes nothing.
 use mathlib.Core.Path.{_≡_, sym, ap, ap₂, _∙_, subst}
 use mathlib.Core.Bool.{cond}
 use lib.IntN.{ℤ, pos, _+ℤ_}

@@ -1,10 +1,12 @@
+-- `words::box_words` meets its contract: the larger of the smaller word and minus the larger one is the box. Assumes nothing.
 use mathlib.Core.Path.{_≡_, sym, ap, ap₂, _∙_, subst}
-use mathlib.Core.Bool.{Bool, true, false, cond}
+use mathlib.Core.Bool.{cond}
 use lib.IntN.{ℤ, negℤ, +ℤ-idl}
 use lib.Signed.{ltZ}
 use mir.Val.{toZ, ofZ}
 use mir.Syntax.{w32}
 use mir.Facts.{toZ-ofZ}
+use Rattle.model.proofs.Lists.{cond-both}
 use Rattle.words.specs.Words.{Word}
 use Rattle.words.proofs.Signed.{back, neg-fits, box-by}
 use Rattle.words.proofs.Laws.{boxWord-is}
@@ -24,15 +26,11 @@ low-is c = back (c .min-word .ok) ∙ c .min-word .ensures ∙ ap₂ (λ (x y : 
 high-is : (c : tie.After-max-word) → let a = c .before .before .args in toZ w32 (ofZ w32 (c .max-word .result)) ≡ cond (ltZ (a .a) (a .b)) (a .b) (a .a)
 high-is c = back (c .max-word .ok) ∙ c .max-word .ensures ∙ ap₂ (λ (x y : ℤ). cond (ltZ x y) y x) (toZ-ofZ (c .before .before .fits .a)) (toZ-ofZ (c .before .before .fits .b))
 
-either-word : (t : Bool) (x y : ℤ) → Word x → Word y → Word (cond t x y)
-either-word true x y p q = p
-either-word false x y p q = q
-
 sub-max-word : tie.Need-sub-max-word
 sub-max-word c =
     let s = c .before .before in
     let a = s .args in
-    neg-fits (toZ w32 (ofZ w32 (c .max-word .result))) (subst Word (sym (high-is c)) (either-word (ltZ (a .a) (a .b)) (a .b) (a .a) (s .pre .1) (s .pre .0)))
+    neg-fits (toZ w32 (ofZ w32 (c .max-word .result))) (subst Word (sym (high-is c)) (cond-both Word (ltZ (a .a) (a .b)) (s .pre .1) (s .pre .0)))
 
 max-word-requires-2 : tie.Need-max-word-requires-2
 max-word-requires-2 c κs = search needs

@@ -1,3 +1,4 @@
+-- `words::copy_words` meets its contract. The loop's invariant: the first k words are copied. Assumes nothing.
 use mathlib.Core.Path.{_≡_, refl, ap, _∙_}
 use Prim.Native.Nat.{ℕ, _+_, _-_, _≤_}
 use native.Mathlib.Omega.{arith}

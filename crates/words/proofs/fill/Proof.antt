@@ -1,3 +1,4 @@
+-- `words::fill` meets its contract. The loop's invariant: the first k words are stored. Assumes nothing.
 use mathlib.Core.Path.{_≡_, refl, ap₂, _∙_}
 use Prim.Native.Nat.{ℕ, _-_, _≤_}
 use native.Mathlib.Omega.{arith}
@@ -14,23 +15,23 @@ use Rattle.words.proofs.fill.Statement.{statement}
 use Rattle.words.proofs.fill.Tie as tie
 
 abbrev Inv-loop : tie.InvT-loop
-Inv-loop w₀ m s v k₀ w k = (k ≤ s) × (w ≡ write w₀ m k (λ j. toZ w32 v)) × (length w ≡ length w₀)
+Inv-loop w₀ m s value k₀ w k = (k ≤ s) × (w ≡ write w₀ m k (λ j. toZ w32 value)) × (length w ≡ length w₀)
 
 abbrev μ-loop : tie.MeasureT-loop
-μ-loop w₀ m s v k₀ w k = s - k
+μ-loop w₀ m s value k₀ w k = s - k
 
 loop-holds : tie.Need-loop-holds Inv-loop μ-loop
 loop-holds c =
     (omega arith, store-none (pos 0) _ _ _, refl)
 
-add-v : tie.Need-add-v Inv-loop μ-loop
-add-v c = search needs
+add-value : tie.Need-add-value Inv-loop μ-loop
+add-value c = search needs
 
-mul-v : tie.Need-mul-v Inv-loop μ-loop
-mul-v c = search needs
+mul-value : tie.Need-mul-value Inv-loop μ-loop
+mul-value c = search needs
 
-slice-set-from-v : tie.Need-slice-set-from-v Inv-loop μ-loop
-slice-set-from-v c = search needs
+slice-set-from-value : tie.Need-slice-set-from-value Inv-loop μ-loop
+slice-set-from-value c = search needs
 
 add-k : tie.Need-add-k Inv-loop μ-loop
 add-k c = search needs
@@ -42,7 +43,7 @@ loop-again : tie.Need-loop-again Inv-loop μ-loop
 loop-again c =
     let at-loop = c .before in
     let a = at-loop .before .args in
-    (omega arith, store-more (pos 0) (a .w .now) (at-loop .loop .w) (a .m) (at-loop .loop .k) _ (λ (j : ℕ). toZ w32 (ofZ w32 (a .v))) (at-loop .loop .inv .1) refl, simp length-set (at-loop .loop .inv .2))
+    (omega arith, store-more (pos 0) (a .w .now) (at-loop .loop .w) (a .m) (at-loop .loop .k) _ (λ (j : ℕ). toZ w32 (ofZ w32 (a .value))) (at-loop .loop .inv .1) refl, simp length-set (at-loop .loop .inv .2))
 
 same-length : tie.Need-same-length Inv-loop μ-loop
 same-length c =
@@ -54,7 +55,7 @@ returns c =
     let s = at-loop .before in
     let a = s .args in
     at-loop .loop .inv .1
-    ∙ ap₂ (λ (n : ℕ) (z : ℤ). write (a .w .now) (a .m) n (λ j. z)) (le-antisymm (at-loop .loop .inv .0) (c .loop-test .left)) (toZ-ofZ (s .fits .v))
+    ∙ ap₂ (λ (n : ℕ) (z : ℤ). write (a .w .now) (a .m) n (λ j. z)) (le-antisymm (at-loop .loop .inv .0) (c .loop-test .left)) (toZ-ofZ (s .fits .value))
 
 pub fill-spec : {M : Type 1} → statement M
 fill-spec =
@@ -63,9 +64,9 @@ fill-spec =
     Inv-loop
     μ-loop
     loop-holds
-    add-v
-    mul-v
-    slice-set-from-v
+    add-value
+    mul-value
+    slice-set-from-value
     add-k
     loop-less
     loop-again

@@ -1,3 +1,4 @@
+-- `words::leaf_word` meets its contract: its test is the definition's. Assumes nothing.
 use Rattle.model.specs.Scan.{leafValue}
 use borrow.Author.Tests.{eq-eqb, ne-eqb}
 use Rattle.words.proofs.leaf_word.Statement.{statement}

@@ -1,3 +1,4 @@
+-- `words::leaf_words` meets its contract. The loop's invariant: the messages of the first k leaves are stored. Assumes nothing.
 use mathlib.Core.Path.{_≡_, refl, ap, _∙_}
 use Prim.Native.Nat.{ℕ, _-_, _≤_}
 use native.Mathlib.Omega.{arith}

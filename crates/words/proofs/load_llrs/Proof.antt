@@ -1,3 +1,4 @@
+-- `words::load_llrs` meets its contract. The loop's invariant: the first k LLRs are stored. Assumes nothing.
 use mathlib.Core.Path.{_≡_, refl, ap, _∙_}
 use Prim.Native.Nat.{ℕ, _-_, _≤_}
 use native.Mathlib.Omega.{arith}

@@ -1,3 +1,4 @@
+-- `words::pick_word` meets its contract: its test is the definition's. Assumes nothing.
 use mir.Facts.{toZ-ofZ}
 use Rattle.words.proofs.pick_word.Statement.{statement}
 use Rattle.words.proofs.pick_word.Tie as tie

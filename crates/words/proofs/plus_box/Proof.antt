@@ -1,3 +1,4 @@
+-- `words::plus_box` meets its contract: the boxes are stored, and then the part from c on is added to them. Assumes nothing.
 use Rattle.words.proofs.Steps.{plus-box-law, front-own, front-other}
 use mathlib.Core.Path.{sym, subst₂}
 use Rattle.words.specs.Words.{Finite}
