@@ -1,34 +1,33 @@
 -- A decode's answer and buffers, from its steps to the definitions. Assumes nothing.
 use mathlib.Core.Path.{_≡_, refl, sym, _∙_, ap, ap₂, subst}
-use mathlib.Core.Bool.{Bool, true, false, cond, not, _&&_}
+use mathlib.Core.Bool.{Bool, true, false, cond}
 use mathlib.Core.List.{List, [], _∷_, _++_, map}
 use Prim.Native.Nat.{ℕ, zero, suc, _+_, _*_, _^_, _<_, _≤_}
-use native.Mathlib.Nat.{zero-add}
 use native.Mathlib.Nat.{zero-add}
 use native.Mathlib.Omega.{arith}
 use borrow.Author.Tests.{eq-eqb, ne-eqb, leb-true}
 use lib.Dec.{T, eqb, leb, eqb·suc-zero}
 use lib.IntN.{ℤ, pos, natAbs}
-use lib.ListN.{length, getD, replicate, List·getD-map, length-append, length-replicate}
-use Rattle.model.specs.Lists.{tabulate, over, bit, atMost}
+use lib.ListN.{length, getD, replicate, List·getD-map, length-append}
+use Rattle.model.specs.Lists.{tabulate, over, bit}
 use Rattle.model.specs.Soft.{Soft, finite, softZero, _at_, plus, mark, wordOf}
-use lib.Pow.{pow-mono, pow-pos}
+use lib.Pow.{pow-mono}
 use Rattle.model.specs.Encoding.{unfrozen, transform, payloadOf, frozenZero}
 use Rattle.model.specs.Scan.{Tree, message, start, toNode, visit, sweeps, scan, hardBit, hardWord, decided, decodeScan}
 use Rattle.model.specs.Bounds.{Small, Under, limit}
-use Rattle.model.specs.Plans as plans
-use Rattle.model.specs.Refusals.{Test, test, refusal, row-1, row-2, row-3, row-4, row-5, row-6, row-7, row-11, row-12, exponent, accepted, llrsInRange, DecodeCall, decodeNumber, decodeAnswer, decodeCycles, decodeCheck, decodeSoft, decodeHard, decodePayload, decodeWork}
-use Rattle.model.proofs.Lists.{length-tabulate, getD-tabulate, tabulate-ext, double}
+use Rattle.model.specs.Refusals.{Test, test, refusal, row-1, row-2, row-3, row-4, row-5, row-6, row-7, row-11, row-12, exponent, DecodeCall, decodeNumber, decodeAnswer, decodeCycles, decodeCheck, decodeSoft, decodeHard, decodePayload, decodeWork}
+use Rattle.model.proofs.Lists.{length-tabulate, tabulate-ext, double}
 use Rattle.model.proofs.Bounds.{soft-under, cap-limit, under-mono}
 use Rattle.model.proofs.Refusals.{llrs-small}
 use Rattle.model.proofs.Theorems.{decision-bound, cycles-most}
-use Rattle.words.specs.Words.{word, softOf, write, stored, addWord, Word, Added}
+use Rattle.words.specs.Words.{word, softOf, write, stored, addWord, Added}
 use Rattle.words.proofs.Laws.{soft-fin, soft-word, word-in}
 use Rattle.words.proofs.Store.{write-in, length-write}
 use Rattle.scan.specs.Space.{Decodable}
 use Rattle.decisions.specs.Bits.{decisionAt}
-use Rattle.decode.specs.Calls.{callOf, inputNumber, Passed, InputTests, Answered, Written, Readable, wordDecisions}
+use Rattle.decode.specs.Calls.{callOf, inputNumber, Passed, Answered, Written, Readable, wordDecisions}
 use Rattle.decode.proofs.Bits.{write-front}
+use Rattle.model.specs.Plans as plans
 
 -- ---- tests one list after the other
 abbrev Numbered : List Test → Type 0

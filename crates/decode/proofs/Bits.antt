@@ -1,18 +1,18 @@
 -- The bits read off the soft values' words: from the buffers that the steps leave to the definitions. Assumes nothing.
 use mathlib.Core.Path.{_≡_, refl, sym, _∙_, ap, ap₂}
-use mathlib.Core.Bool.{Bool, true, false, cond, not, _&&_}
+use mathlib.Core.Bool.{Bool, true, cond, _&&_}
 use mathlib.Core.List.{List, [], _∷_, _++_}
-use Prim.Native.Nat.{ℕ, zero, suc, _+_, _-_, _^_, _<_, _≤_}
+use Prim.Native.Nat.{ℕ, _+_, _-_, _^_, _≤_}
 use native.Mathlib.Nat.{zero-add}
 use native.Mathlib.Omega.{arith}
 use borrow.Author.Tests.{ne-eqb}
 use lib.Dec.{eqb}
 use lib.IntN.{ℤ}
-use lib.ListN.{length, getD, take, drop, replicate, List·getD-append}
+use lib.ListN.{length, getD, take, drop, List·getD-append}
 use lib.Seq.{length-take-le, take-at, drop-at, getD-append-add, getD-drop}
-use Rattle.model.specs.Lists.{tabulate, over, bit}
+use Rattle.model.specs.Lists.{tabulate, over}
 use Rattle.model.specs.Encoding.{isUnfrozen, transform, payloadOf, frozenZero}
-use Rattle.model.specs.Refusals.{refusal, exponent, accepted}
+use Rattle.model.specs.Refusals.{refusal, exponent}
 use Rattle.model.proofs.Lists.{length-tabulate, getD-tabulate}
 use Rattle.model.proofs.Refusals.{exponent-power}
 use Rattle.model.proofs.Transform.{length-transform}
@@ -86,7 +86,7 @@ frozen-front (m ∷ mask) (x ∷ u) tail h = ap (λ (b : Bool). cond (isUnfrozen
 
 -- ---- the steps of reading off
 module _ (mask : List ℕ) (llrs soft : List ℤ) (hard payload hard′ u : List ℕ) (n : ℕ) (can : Readable mask llrs soft n (length hard) (length payload))
-  (e : hard′ ≡ write hard 0 n (decisionAt llrs soft)) (v : List ℕ) (ev : v ≡ over (transform (exponent n) (take n hard′)) u) where
+    (e : hard′ ≡ write hard 0 n (decisionAt llrs soft)) (v : List ℕ) (ev : v ≡ over (transform (exponent n) (take n hard′)) u) where
   abbrev W : List ℕ
   W = wordDecisions llrs soft n
 

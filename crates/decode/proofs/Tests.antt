@@ -1,21 +1,20 @@
 -- The number of a decode from its tests, in their order. Assumes nothing.
-use mathlib.Core.Path.{_≡_, refl, sym, _∙_, ap}
-use mathlib.Core.Bool.{Bool, true, false, cond, not, _&&_}
+use mathlib.Core.Path.{_≡_, sym, _∙_, ap}
+use mathlib.Core.Bool.{Bool, true, false, cond, _&&_}
 use mathlib.Core.List.{List, [], _∷_}
-use Prim.Native.Nat.{ℕ, _+_, _*_, _^_, _≤_}
-use native.Mathlib.Omega.{arith}
+use Prim.Native.Nat.{ℕ, _^_, _≤_}
 use borrow.Author.Tests.{eq-eqb, ne-eqb, leb-true}
-use lib.Dec.{T, eqb, leb}
+use lib.Dec.{eqb, leb}
 use lib.IntN.{ℤ}
 use lib.ListN.{length}
 use Rattle.model.specs.Lists.{atMost}
-use Rattle.model.specs.Encoding.{maxMask, unfrozen}
-use Rattle.model.specs.Plans as model
-use Rattle.model.specs.Refusals.{refusal, row-5, row-6, row-7, row-11, row-12, exponent, maxSweeps, llrsInRange, accepted, DecodeCall, decodeNumber}
+use Rattle.model.specs.Encoding.{maxMask}
+use Rattle.model.specs.Refusals.{refusal, row-5, row-6, row-7, exponent, maxSweeps, llrsInRange}
 use Rattle.model.proofs.Lists.{T-true, true-T, and-r}
 use Rattle.plans.specs.Faults.{faultNumber, faultCycles}
 use Rattle.plans.proofs.Faults.{staged, fault-allowed, fault-then}
-use Rattle.decode.specs.Calls.{inputNumber, Passed, InputTests}
+use Rattle.decode.specs.Calls.{inputNumber, InputTests}
+use Rattle.model.specs.Plans as model
 
 -- a number that is not 0 has no passed inputs to show
 pub refused-as : {mask plan : List ℕ} {sweeps : ℕ} {llrs : List ℤ} {r number cycles stage : ℕ} → r ≡ number → (number ≡ 0 → ⊥) → number ≡ inputNumber mask plan sweeps llrs

@@ -8,10 +8,10 @@ use lib.ListN.{length}
 use Rattle.model.specs.Lists.{tabulate}
 use Rattle.model.specs.Encoding.{unfrozen}
 use Rattle.model.specs.Plans.{Allowed}
-use Rattle.model.specs.Plans as plans
 use Rattle.model.specs.Refusals.{refusal, row-1, row-2, row-3, row-4, row-5, row-6, row-7, exponent, maxSweeps, llrsInRange, DecodeCall, decodeNumber, decodeCycles, decodeCheck, decodeSoft, decodeHard, decodePayload, decodeWork}
 use Rattle.words.specs.Words.{word, Added}
 use Rattle.decisions.specs.Bits.{decisionAt}
+use Rattle.model.specs.Plans as plans
 
 -- the call of a decode with its lent buffers
 abbrev pub callOf : List ℕ → List ℕ → ℕ → List ℤ → List ℤ → List ℕ → List ℕ → List ℤ → DecodeCall

@@ -3,8 +3,9 @@ use decisions::decide;
 use decisions::frozen_check;
 use decisions::read_payload;
 use encode::transform;
-use inputs::at_most;
+use inputs::both;
 use inputs::exponent_of;
+use inputs::mask_bytes;
 use inputs::unfrozen_of;
 use plans::fault_of;
 use scan::soft_values;
@@ -41,20 +42,11 @@ fn answer(number: u32, cycles: u32, check: u8) -> Decoded
 // The most sweeps.
 const MAX_SWEEPS: usize = 16;
 
-// The largest mask byte.
-const MAX_MASK: u8 = 1;
-
 // Whether an LLR is within its range.
 fn is_llr(z: i16) -> bool
     ensures { λ r. ⌜ r ≡ leb (natAbs z) 32767 ⌝ }
 {
     -32768 < z
-}
-
-fn both(a: bool, b: bool) -> bool
-    ensures { λ r. ⌜ r ≡ (a && b) ⌝ }
-{
-    if a { b } else { false }
 }
 
 // Whether every LLR is within its range.
@@ -73,7 +65,11 @@ fn in_range(llrs: &[i16]) -> bool
 fn sweeps_fit(sweeps: usize) -> bool
     ensures { λ r. ⌜ r ≡ (leb 1 sweeps && leb sweeps maxSweeps) ⌝ }
 {
-    if 1 <= sweeps { sweeps <= MAX_SWEEPS } else { false }
+    if 1 <= sweeps {
+        sweeps <= MAX_SWEEPS
+    } else {
+        false
+    }
 }
 
 // What the tests of the inputs find: the number, and where it is 0 the cycles of one sweep and the exponent of N.
@@ -101,7 +97,7 @@ fn input_tests(mask: &[u8], plan: &[u8], sweeps: usize, llrs: &[i16]) -> Tested
     if t == 0 {
         return refused(1);
     }
-    if !at_most(mask, MAX_MASK) {
+    if !mask_bytes(mask) {
         return refused(2);
     }
     if llrs.len() != mask.len() {
@@ -125,7 +121,15 @@ fn input_tests(mask: &[u8], plan: &[u8], sweeps: usize, llrs: &[i16]) -> Tested
 }
 
 // Tests 11 and 12, for N, K and n.
-fn room_tests(n: usize, k: usize, t: usize, soft: usize, hard: usize, payload: usize, words: usize) -> u32
+fn room_tests(
+    n: usize,
+    k: usize,
+    t: usize,
+    soft: usize,
+    hard: usize,
+    payload: usize,
+    words: usize,
+) -> u32
     requires { ⌜ (n ≤ 1024) × (t ≤ 10) ⌝ }
     ensures { λ r. ⌜ r ≡ refusal (row-11 n soft ∷ row-11 n hard ∷ row-11 k payload ∷ row-12 (n * (t + 3)) words ∷ []) ⌝ }
 {
@@ -166,7 +170,14 @@ fn decoded_bits(hard: &[u8], u: &mut [u8], n: usize)
 }
 
 // Hard bits and payload from the soft values' words; answers the frozen check.
-fn read_off(mask: &[u8], llrs: &[i16], soft: &[i32], hard: &mut [u8], payload: &mut [u8], n: usize) -> u8
+fn read_off(
+    mask: &[u8],
+    llrs: &[i16],
+    soft: &[i32],
+    hard: &mut [u8],
+    payload: &mut [u8],
+    n: usize,
+) -> u8
     requires { ⌜ Readable (now mask) (now llrs) (now soft) n (length (now hard)) (length (now payload)) ⌝ }
     ensures { λ r. ⌜ r ≡ bit (frozenZero (now (mask .entry)) (encoding.transform (exponent n) (wordDecisions (now (llrs .entry)) (now (soft .entry)) n))) ⌝ }
     ensures { λ _. ⌜ now (hard .exit) ≡ over (wordDecisions (now (llrs .entry)) (now (soft .entry)) n) (now (hard .entry)) ⌝ }

@@ -1,6 +1,6 @@
 -- `decode::decode` meets its contract: its tests are the rows' in their order, and its steps give the definitions' answer and buffers. Assumes nothing.
-use mathlib.Core.Path.{_≡_, refl, sym, ap, _∙_}
-use Prim.Native.Nat.{ℕ, _*_, _≤_}
+use mathlib.Core.Path.{sym, _∙_}
+use Prim.Native.Nat.{_*_, _≤_}
 use native.Mathlib.Nat.{mul-le-mul}
 use native.Mathlib.Omega.{arith}
 use borrow.Author.Needs.{needs}
@@ -183,9 +183,10 @@ returns-3 c =
     let off = c .before .before .before .before .before .before .read-off in
     let soft′ = run .last .1 .1 .1 .1 .1 .1 .0 in
     let es = run .ensures .0 in
-    let e = number-room mask plan (a .sweeps) llrs soft hard payload work ok z in
-    (accepted-answer mask plan (a .sweeps) llrs soft hard payload work z pass soft′ es e _ _ _ (c .answer3 .ensures .0) (c .answer3 .ensures .1) (c .answer3 .ensures .2 ∙ off .ensures .0),
-    accepted-written mask plan (a .sweeps) llrs soft hard payload work z pass soft′ es e _ _ _ (off .ensures .1 .0) (off .ensures .1 .1) (run .ensures .1))
+    let e = number-room mask plan (a .sweeps) llrs soft hard payload work ok z in (
+      accepted-answer mask plan (a .sweeps) llrs soft hard payload work z pass soft′ es e _ _ _ (c .answer3 .ensures .0) (c .answer3 .ensures .1) (c .answer3 .ensures .2 ∙ off .ensures .0),
+      accepted-written mask plan (a .sweeps) llrs soft hard payload work z pass soft′ es e _ _ _ (off .ensures .1 .0) (off .ensures .1 .1) (run .ensures .1),
+    )
 
 pub decode-spec : {M : Type 1} → statement M
 decode-spec = tie.close (tie.spec input-tests-requires answer-requires returns unfrozen-of-requires room-tests-requires answer-requires-2 returns-2 soft-values-requires read-off-requires cast-answer mul-answer answer-requires-3 same-length same-length-2 same-length-3 same-length-4 returns-3)

@@ -6,10 +6,6 @@ use Rattle.decode.proofs.Bits.{bits-law}
 use borrow.Author.Needs.{needs}
 use Rattle.decode.proofs.decoded_bits.Statement.{statement}
 use Rattle.decode.proofs.decoded_bits.Tie as tie
-use Rattle.decode.proofs.decoded_bits.Reads as reads
-use Rattle.decode.proofs.decoded_bits.Lts as lts
-use Rattle.decode.proofs.copy_bytes.Reads as copy-bytes-reads
-use Rattle.encode.proofs.transform.Reads as transform-reads
 
 copy-bytes-requires : tie.Need-copy-bytes-requires
 copy-bytes-requires c κs = search needs

@@ -1,7 +1,7 @@
 -- `decode::in_range` meets its contract. The loop's invariant: what was found so far and the LLRs that are left give the answer. Assumes nothing.
 use mathlib.Core.Path.{_≡_, refl, sym, ap, _∙_}
 use mathlib.Core.Bool.{Bool, _&&_}
-use Prim.Native.Nat.{ℕ, _+_, _-_, _≤_}
+use Prim.Native.Nat.{_+_, _-_, _≤_}
 use native.Mathlib.Omega.{arith}
 use lib.Dec.{leb}
 use lib.IntN.{ℤ, pos, natAbs}
@@ -12,10 +12,6 @@ use Rattle.decode.proofs.Lists.{range-more, range-end}
 use borrow.Author.Needs.{needs}
 use Rattle.decode.proofs.in_range.Statement.{statement}
 use Rattle.decode.proofs.in_range.Tie as tie
-use Rattle.decode.proofs.in_range.Reads as reads
-use Rattle.decode.proofs.in_range.Lts as lts
-use Rattle.decode.proofs.both.Reads as both-reads
-use Rattle.decode.proofs.is_llr.Reads as is-llr-reads
 
 abbrev Inv-loop : tie.InvT-loop
 Inv-loop llrs good₀ i₀ good i = (i ≤ length llrs) × (llrsInRange llrs ≡ (good && llrsInRange (drop i llrs)))

@@ -1,6 +1,6 @@
 -- `decode::input_tests` meets its contract: its tests are the rows' in their order. Assumes nothing.
 use mathlib.Core.Path.{_≡_, sym, ap, _∙_}
-use mathlib.Core.Bool.{true, false, _&&_}
+use mathlib.Core.Bool.{true, _&&_}
 use Prim.Native.Nat.{ℕ}
 use native.Mathlib.Omega.{arith}
 use borrow.Author.Needs.{needs}
@@ -23,7 +23,7 @@ refused-requires : tie.Need-refused-requires
 refused-requires c κs = search needs
 
 returns : tie.Need-returns
-returns c = 
+returns c =
     let start = c .before .before .before .before .before in
     let a = start .args in
     let mask = a .mask .now in
@@ -32,14 +32,14 @@ returns c =
     let e = c .before .before .exponent-of .ensures in
     refused-as (c .refused .ensures) (λ z. omega arith) (number-1 mask plan (a .sweeps) llrs (sym e ∙ c .before .if1 .taken))
 
-at-most-requires : tie.Need-at-most-requires
-at-most-requires c κs = search needs
+mask-bytes-requires : tie.Need-mask-bytes-requires
+mask-bytes-requires c κs = search needs
 
 refused-requires-2 : tie.Need-refused-requires-2
 refused-requires-2 c κs = search needs
 
 returns-2 : tie.Need-returns-2
-returns-2 c = 
+returns-2 c =
     let start = c .before .before .before .before .before .before .before in
     let a = start .args in
     let mask = a .mask .now in
@@ -47,13 +47,13 @@ returns-2 c =
     let llrs = a .llrs .now in
     let e = c .before .before .before .before .exponent-of .ensures in
     let one : exponent (length mask) ≡ 0 → ⊥ = λ z. c .before .before .before .if1 .left (e ∙ z) in
-    refused-as (c .refused2 .ensures) (λ z. omega arith) (number-2 mask plan (a .sweeps) llrs one (sym (c .before .before .at-most .ensures) ∙ not-true _ (c .before .if2 .taken)))
+    refused-as (c .refused2 .ensures) (λ z. omega arith) (number-2 mask plan (a .sweeps) llrs one (sym (c .before .before .mask-bytes .ensures) ∙ not-true _ (c .before .if2 .taken)))
 
 refused-requires-3 : tie.Need-refused-requires-3
 refused-requires-3 c κs = search needs
 
 returns-3 : tie.Need-returns-3
-returns-3 c = 
+returns-3 c =
     let start = c .before .before .before .before .before .before .before .before in
     let a = start .args in
     let mask = a .mask .now in
@@ -61,7 +61,7 @@ returns-3 c =
     let llrs = a .llrs .now in
     let e = c .before .before .before .before .before .exponent-of .ensures in
     let one : exponent (length mask) ≡ 0 → ⊥ = λ z. c .before .before .before .before .if1 .left (e ∙ z) in
-    let two : atMost maxMask mask ≡ true = sym (c .before .before .before .at-most .ensures) ∙ not-false _ (c .before .before .if2 .left) in
+    let two : atMost maxMask mask ≡ true = sym (c .before .before .before .mask-bytes .ensures) ∙ not-false _ (c .before .before .if2 .left) in
     refused-as (c .refused3 .ensures) (λ z. omega arith) (number-3 mask plan (a .sweeps) llrs one two (c .before .if3 .taken))
 
 sweeps-fit-requires : tie.Need-sweeps-fit-requires
@@ -71,7 +71,7 @@ refused-requires-4 : tie.Need-refused-requires-4
 refused-requires-4 c κs = search needs
 
 returns-4 : tie.Need-returns-4
-returns-4 c = 
+returns-4 c =
     let start = c .before .before .before .before .before .before .before .before .before .before in
     let a = start .args in
     let mask = a .mask .now in
@@ -79,12 +79,12 @@ returns-4 c =
     let llrs = a .llrs .now in
     let e = c .before .before .before .before .before .before .before .exponent-of .ensures in
     let one : exponent (length mask) ≡ 0 → ⊥ = λ z. c .before .before .before .before .before .before .if1 .left (e ∙ z) in
-    let two : atMost maxMask mask ≡ true = sym (c .before .before .before .before .before .at-most .ensures) ∙ not-false _ (c .before .before .before .before .if2 .left) in
+    let two : atMost maxMask mask ≡ true = sym (c .before .before .before .before .before .mask-bytes .ensures) ∙ not-false _ (c .before .before .before .before .if2 .left) in
     let three : length llrs ≡ length mask = c .before .before .before .if3 .left in
     refused-as (c .refused4 .ensures) (λ z. omega arith) (number-4 mask plan (a .sweeps) llrs one two three (sym (c .before .before .sweeps-fit .ensures) ∙ not-true _ (c .before .if4 .taken)))
 
 fault-of-requires : tie.Need-fault-of-requires
-fault-of-requires c κs = 
+fault-of-requires c κs =
     let start = c .before .before .before .before .before .before .before .before .before in
     let a = start .args in
     let mask = a .mask .now in
@@ -98,7 +98,7 @@ refused-requires-5 : tie.Need-refused-requires-5
 refused-requires-5 c κs = search needs
 
 returns-5 : tie.Need-returns-5
-returns-5 c = 
+returns-5 c =
     let start = c .before .before .before .before .before .before .before .before .before .before .before .before .before in
     let a = start .args in
     let mask = a .mask .now in
@@ -106,7 +106,7 @@ returns-5 c =
     let llrs = a .llrs .now in
     let e = c .before .before .before .before .before .before .before .before .before .before .exponent-of .ensures in
     let one : exponent (length mask) ≡ 0 → ⊥ = λ z. c .before .before .before .before .before .before .before .before .before .if1 .left (e ∙ z) in
-    let two : atMost maxMask mask ≡ true = sym (c .before .before .before .before .before .before .before .before .at-most .ensures) ∙ not-false _ (c .before .before .before .before .before .before .before .if2 .left) in
+    let two : atMost maxMask mask ≡ true = sym (c .before .before .before .before .before .before .before .before .mask-bytes .ensures) ∙ not-false _ (c .before .before .before .before .before .before .before .if2 .left) in
     let three : length llrs ≡ length mask = c .before .before .before .before .before .before .if3 .left in
     let four : (leb 1 (a .sweeps) && leb (a .sweeps) maxSweeps) ≡ true = sym (c .before .before .before .before .before .sweeps-fit .ensures) ∙ not-false _ (c .before .before .before .before .if4 .left) in
     let fault = c .before .before .before .fault-of .ensures in
@@ -120,7 +120,7 @@ refused-requires-6 : tie.Need-refused-requires-6
 refused-requires-6 c κs = search needs
 
 returns-6 : tie.Need-returns-6
-returns-6 c = 
+returns-6 c =
     let start = c .before .before .before .before .before .before .before .before .before .before .before .before .before .before .before in
     let a = start .args in
     let mask = a .mask .now in
@@ -128,7 +128,7 @@ returns-6 c =
     let llrs = a .llrs .now in
     let e = c .before .before .before .before .before .before .before .before .before .before .before .before .exponent-of .ensures in
     let one : exponent (length mask) ≡ 0 → ⊥ = λ z. c .before .before .before .before .before .before .before .before .before .before .before .if1 .left (e ∙ z) in
-    let two : atMost maxMask mask ≡ true = sym (c .before .before .before .before .before .before .before .before .before .before .at-most .ensures) ∙ not-false _ (c .before .before .before .before .before .before .before .before .before .if2 .left) in
+    let two : atMost maxMask mask ≡ true = sym (c .before .before .before .before .before .before .before .before .before .before .mask-bytes .ensures) ∙ not-false _ (c .before .before .before .before .before .before .before .before .before .if2 .left) in
     let three : length llrs ≡ length mask = c .before .before .before .before .before .before .before .before .if3 .left in
     let four : (leb 1 (a .sweeps) && leb (a .sweeps) maxSweeps) ≡ true = sym (c .before .before .before .before .before .before .before .sweeps-fit .ensures) ∙ not-false _ (c .before .before .before .before .before .before .if4 .left) in
     let fault = c .before .before .before .before .before .fault-of .ensures in
@@ -137,7 +137,7 @@ returns-6 c =
     refused-as (c .refused6 .ensures) (λ z. omega arith) (number-7 mask plan (a .sweeps) llrs one two three four five (sym (c .before .before .in-range .ensures) ∙ not-true _ (c .before .if6 .taken)))
 
 returns-7 : tie.Need-returns-7
-returns-7 c = 
+returns-7 c =
     let start = c .before .before .before .before .before .before .before .before .before .before .before .before .before .before in
     let a = start .args in
     let mask = a .mask .now in
@@ -145,7 +145,7 @@ returns-7 c =
     let llrs = a .llrs .now in
     let e = c .before .before .before .before .before .before .before .before .before .before .before .exponent-of .ensures in
     let one : exponent (length mask) ≡ 0 → ⊥ = λ z. c .before .before .before .before .before .before .before .before .before .before .if1 .left (e ∙ z) in
-    let two : atMost maxMask mask ≡ true = sym (c .before .before .before .before .before .before .before .before .before .at-most .ensures) ∙ not-false _ (c .before .before .before .before .before .before .before .before .if2 .left) in
+    let two : atMost maxMask mask ≡ true = sym (c .before .before .before .before .before .before .before .before .before .mask-bytes .ensures) ∙ not-false _ (c .before .before .before .before .before .before .before .before .if2 .left) in
     let three : length llrs ≡ length mask = c .before .before .before .before .before .before .before .if3 .left in
     let four : (leb 1 (a .sweeps) && leb (a .sweeps) maxSweeps) ≡ true = sym (c .before .before .before .before .before .before .sweeps-fit .ensures) ∙ not-false _ (c .before .before .before .before .before .if4 .left) in
     let fault = c .before .before .before .before .fault-of .ensures in
@@ -157,4 +157,4 @@ returns-7 c =
 pub input-tests-spec : {M : Type 1} → statement M
 input-tests-spec =
     tie.close
-    (tie.spec exponent-of-requires refused-requires returns at-most-requires refused-requires-2 returns-2 refused-requires-3 returns-3 sweeps-fit-requires refused-requires-4 returns-4 fault-of-requires refused-requires-5 returns-5 in-range-requires refused-requires-6 returns-6 returns-7)
+    (tie.spec exponent-of-requires refused-requires returns mask-bytes-requires refused-requires-2 returns-2 refused-requires-3 returns-3 sweeps-fit-requires refused-requires-4 returns-4 fault-of-requires refused-requires-5 returns-5 in-range-requires refused-requires-6 returns-6 returns-7)

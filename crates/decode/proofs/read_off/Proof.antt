@@ -1,5 +1,5 @@
 -- `decode::read_off` meets its contract: hard bits, their transform, its unfrozen and frozen bits. Assumes nothing.
-use mathlib.Core.Path.{sym, ap, _∙_}
+use mathlib.Core.Path.{ap, _∙_}
 use mathlib.Core.List.{List}
 use Prim.Native.Nat.{ℕ}
 use native.Mathlib.Omega.{arith}
@@ -8,12 +8,6 @@ use Rattle.decode.proofs.Bits.{hard-law, payload-law, check-law}
 use borrow.Author.Needs.{needs}
 use Rattle.decode.proofs.read_off.Statement.{statement}
 use Rattle.decode.proofs.read_off.Tie as tie
-use Rattle.decode.proofs.read_off.Reads as reads
-use Rattle.decode.proofs.read_off.Lts as lts
-use Rattle.decisions.proofs.decide.Reads as decide-reads
-use Rattle.decisions.proofs.frozen_check.Reads as frozen-check-reads
-use Rattle.decisions.proofs.read_payload.Reads as read-payload-reads
-use Rattle.decode.proofs.decoded_bits.Reads as decoded-bits-reads
 
 decide-requires : tie.Need-decide-requires
 decide-requires c κs =

@@ -7,8 +7,6 @@ use Rattle.model.specs.Refusals.{refusal}
 use borrow.Author.Needs.{needs}
 use Rattle.decode.proofs.room_tests.Statement.{statement}
 use Rattle.decode.proofs.room_tests.Tie as tie
-use Rattle.decode.proofs.room_tests.Reads as reads
-use Rattle.decode.proofs.room_tests.Lts as lts
 
 returns : tie.Need-returns
 unfolding refusal
