@@ -1,0 +1,85 @@
+-- What an accepted line says: its number is 0. For the callers of `read_line`. Assumes nothing.
+use mathlib.Core.Path.{_≡_, refl, sym, ap, _∙_, subst}
+use mathlib.Core.Bool.{Bool, true, false, cond, not, _&&_}
+use mathlib.Core.List.{List, [], _∷_, _++_}
+use Prim.Native.Nat.{ℕ, suc, _^_, _≤_, _<_}
+use native.Mathlib.Omega.{arith}
+use lib.Dec.{T, eqb, leb}
+use lib.IntN.{ℤ}
+use lib.ListN.{length, take, drop}
+use lib.Pow.{pow-mono}
+use lib.Seq.{take-at}
+use borrow.Author.Tests.{eq-eqb, eqb-true, leb-true}
+use Rattle.model.specs.Lists.{atMost, over}
+use Rattle.model.specs.Encoding.{maxMask}
+use Rattle.model.specs.Refusals.{Test, test, refusal, exponent, maxSweeps, llrsInRange}
+use Rattle.model.proofs.Refusals.{exponent-power}
+use Rattle.reader.specs.Grammar.{Reading, malformed, reading}
+use Rattle.reader.specs.Answers.{maskOf, llrsOf, count, sweepsOf, lineNumber, lineSize, lineSweeps, lineMask, lineLlrs}
+use Rattle.reader.proofs.Fields.{and-both}
+
+pub record Accepted (line : Reading) : Type 0 where
+  pub allowed : exponent (length (maskOf line)) ≡ 0 → ⊥
+  pub small : length (maskOf line) ≤ 1024
+  pub bits : atMost maxMask (maskOf line) ≡ true
+  pub same : length (llrsOf line) ≡ length (maskOf line)
+  pub some : 1 ≤ sweepsOf line
+  pub most : sweepsOf line ≤ maxSweeps
+  pub range : llrsInRange (llrsOf line) ≡ true
+
+-- a test of a number that is not 0 passes where the number of all is 0
+passes : (number : ℕ) (p : Bool) (ts : List Test) → (number ≡ 0 → ⊥) → refusal (test number p ∷ ts) ≡ 0 → (p ≡ true) × (refusal ts ≡ 0)
+unfolding refusal
+passes number true ts h e = (refl, e)
+passes number false ts h e = absurd (h e)
+
+power-small : (N : ℕ) → (exponent N ≡ 0 → ⊥) → N ≤ 1024
+power-small N h =
+    let p = exponent-power N h in
+    let m : 2 ^ exponent N ≤ 1024 = pow-mono (p .1) in
+    omega (arith, p .0)
+
+pub line-accepted : (line : Reading) → lineNumber line ≡ 0 → Accepted line
+unfolding lineNumber
+line-accepted malformed e = absurd (omega arith)
+line-accepted (reading mask sweeps llrs) e =
+    let a = passes 1 _ _ (λ z. omega arith) e in
+    let b = passes 2 _ _ (λ z. omega arith) (a .1) in
+    let c = passes 3 _ _ (λ z. omega arith) (b .1) in
+    let d = passes 4 _ _ (λ z. omega arith) (c .1) in
+    let f = passes 7 _ _ (λ z. omega arith) (d .1) in
+    let g = and-both (leb 1 (count sweeps)) (leb (count sweeps) maxSweeps) (d .0) in
+    let h : exponent (length mask) ≡ 0 → ⊥ = not-zero (exponent (length mask)) (a .0) in
+    record {
+      allowed = h;
+      small = power-small (length mask) h;
+      bits = b .0;
+      same = eqb-true (length llrs) (length mask) (c .0);
+      some = leb-true 1 (count sweeps) (g .0);
+      most = leb-true (count sweeps) maxSweeps (g .1);
+      range = f .0;
+    }
+  where
+    not-zero : (n : ℕ) → not (eqb n 0) ≡ true → n ≡ 0 → ⊥
+    not-zero n p q = subst T (sym (rw (eq-eqb n 0 q) at p)) tt
+
+-- what `read_line` answers and leaves, where the number is 0
+module _ (line : Reading) (e : lineNumber line ≡ 0) where
+  pub size-is : lineSize line ≡ length (maskOf line)
+  unfolding lineSize
+  size-is = simp (eq-eqb (lineNumber line) 0 e)
+
+  pub sweeps-are : lineSweeps line ≡ sweepsOf line
+  unfolding lineSweeps
+  sweeps-are = simp (eq-eqb (lineNumber line) 0 e)
+
+  pub mask-front : (mask : List ℕ) → take (lineSize line) (lineMask line mask) ≡ maskOf line
+  unfolding lineMask over
+  mask-front mask = rw size-is (simp (eq-eqb (lineNumber line) 0 e) (take-at (maskOf line) (drop (length (maskOf line)) mask) (length (maskOf line)) refl))
+
+  pub llrs-front : (llrs : List ℤ) → take (lineSize line) (lineLlrs line llrs) ≡ llrsOf line
+  unfolding lineLlrs over
+  llrs-front llrs =
+      rw size-is
+      (simp (eq-eqb (lineNumber line) 0 e)
+      (take-at (llrsOf line) (drop (length (llrsOf line)) llrs) (length (maskOf line)) (line-accepted line e .same)))
