@@ -1,6 +1,7 @@
 // Reads the program's line: the mask's digits, the sweeps, the LLRs.
+use inputs::both;
 ghost use mathlib.Core.Path.{_≡_};
-ghost use mathlib.Core.Bool.{Bool, true, false, _&&_};
+ghost use mathlib.Core.Bool.{true};
 ghost use mathlib.Core.List.{List, map};
 ghost use Prim.Native.Nat.{ℕ, _+_, _-_, _<_, _≤_, max};
 ghost use lib.IntN.{ℤ, pos};
@@ -178,12 +179,6 @@ fn is_llr(z: i32) -> bool
         return false;
     }
     z <= 32767
-}
-
-fn both(a: bool, b: bool) -> bool
-    ensures { λ r. ⌜ r ≡ (a && b) ⌝ }
-{
-    if a { b } else { false }
 }
 
 // The LLRs of a line: how many, and whether all are within ±32767.
