@@ -1,8 +1,6 @@
 // The library for a C host: numbers, and slices of bytes and words.
 use decode::decode;
-ghost use mathlib.Core.Path.{_≡_};
-ghost use Prim.Native.Nat.{_+_, _*_};
-ghost use Rattle.decode.specs.Calls.{callOf, Answered, Written};
+ghost use Rattle.decode.specs.Calls.{callOf, Written};
 ghost use Rattle.host.specs.Answers.{DecodeAnswer};
 
 // A decode. The answer is number + 256 × cycles + 2 ^ 40 × frozen check.
