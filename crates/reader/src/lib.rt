@@ -1,14 +1,13 @@
 // Reads the program's line: the mask's digits, the sweeps, the LLRs.
 ghost use mathlib.Core.Path.{_≡_};
-ghost use mathlib.Core.Bool.{Bool, true, false, _&&_};
-ghost use mathlib.Core.List.{List, map};
-ghost use Prim.Native.Nat.{ℕ, _+_, _-_, _<_, _≤_, max};
-ghost use lib.IntN.{ℤ, pos};
-ghost use lib.ListN.{length, take, drop};
+ghost use mathlib.Core.Bool.{true, false, _&&_};
+ghost use mathlib.Core.List.{map};
+ghost use Prim.Native.Nat.{_+_, _-_, _<_, _≤_, max};
+ghost use lib.ListN.{length, drop};
 ghost use Rattle.model.specs.Lists.{over};
 ghost use Rattle.model.specs.Soft.{signed};
 ghost use Rattle.model.specs.Refusals.{llrsInRange, accepted};
-ghost use Rattle.reader.specs.Grammar.{firstOf, fields, isDigit, isDigits, digit, largest, isNumber, value, allNumbers, readLine, readFields};
+ghost use Rattle.reader.specs.Grammar.{firstOf, fields, isDigit, isDigits, digit, largest, value, allNumbers, readLine, readFields};
 ghost use Rattle.reader.specs.Answers.{count, maskOf, llrsOf, lineNumber, lineSize, lineSweeps, lineMask, lineLlrs};
 ghost use Rattle.reader.specs.Steps.{sizeOf, signedSize, numberOf, isValue, valueOr, isLlr, rest, llrsRead, partsFrom, partsOf, fieldsNumber, partsNumber, partsSize, partsSweeps};
 
