@@ -1,10 +1,10 @@
 -- Round trip: the fields of a printed line are the fields that were to be printed, and reading its soft values gives them back. Assumes nothing.
-use mathlib.Core.Path.{_≡_, refl, sym, ap, ap₂, _∙_, subst}
+use mathlib.Core.Path.{_≡_, refl, ap, ap₂, _∙_}
 use mathlib.Core.Bool.{Bool, true, false, cond, _&&_}
 use mathlib.Core.List.{List, [], _∷_, _++_, map, append-nil, append-assoc}
 use Prim.Native.Nat.{ℕ, zero, suc, _+_, _*_, _/_, _%_, _≤_, _<_}
 use native.Mathlib.Omega.{arith}
-use lib.Dec.{T, leb, ltb, eqb}
+use lib.Dec.{leb, ltb, eqb}
 use lib.IntN.{ℤ, pos, negsuc}
 use lib.ListN.{length, take, drop, length-append, length-map}
 use lib.Seq.{take-at}
@@ -15,11 +15,8 @@ use Rattle.model.specs.Lists.{same}
 use Rattle.model.specs.Soft.{Soft, finite, certain}
 use Rattle.model.specs.Scan.{Decoded}
 use Rattle.reader.specs.Grammar.{firstOf, lineOf, fields, onFirst, isDigit, allDigits, digit, valueFrom, decimal, hasMinus, unsigned, isNumber, value}
+use Rattle.reader.proofs.Fields.{and-both}
 use Rattle.printer.specs.Text.{ok, no, inf, digitsIn, natText, intText, softText, bitsText, payloadText, spaced, lineText, okFields, okText, noText}
-
-and-both : (a b : Bool) → (a && b) ≡ true → (a ≡ true) × (b ≡ true)
-and-both true b e = (refl, e)
-and-both false b e = absurd (subst T (sym e) tt)
 
 -- ---- numbers
 

@@ -1,6 +1,6 @@
 -- The size of a word of 32 bits, by way of 64 bits. Assumes nothing.
-use mathlib.Core.Path.{_≡_, ap, _∙_, subst}
-use mathlib.Core.Bool.{true, false}
+use mathlib.Core.Path.{_≡_, ap, _∙_}
+use mathlib.Core.Bool.{true}
 use Prim.Native.Nat.{suc, _≤_}
 use native.Mathlib.Omega.{arith}
 use lib.IntN.{ℤ, pos, negsuc, natAbs, _-ℤ_, +ℤ-idl}
@@ -41,7 +41,3 @@ module _ (z : ℤ) (f : SFits w32 z) (e : ltZ z (pos 0) ≡ true) where
 
   pub negated-cast : T (nonNeg (toZ w64 (ofZ w64 (pos 0 -ℤ toZ w64 (ofZ w64 (toZ w32 (ofZ w32 z))))))) × Fits w32 (natAbs (toZ w64 (ofZ w64 (pos 0 -ℤ toZ w64 (ofZ w64 (toZ w32 (ofZ w32 z)))))))
   negated-cast = rw negated-back (tt, record { fits = omega (arith, abs-fits z f) })
-
-pub plain-cast : (z : ℤ) → SFits w32 z → ltZ z (pos 0) ≡ false → T (nonNeg (toZ w32 (ofZ w32 z))) × Fits w32 (natAbs (toZ w32 (ofZ w32 z)))
-plain-cast (pos n) f e = rw (toZ-ofZ f) (tt, record { fits = omega (arith, f .sfits) })
-plain-cast (negsuc n) f e = absurd (subst T e tt)

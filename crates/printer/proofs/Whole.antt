@@ -1,42 +1,37 @@
 -- A line that was printed from the buffer's start on; and the words of soft values. For the callers. Assumes nothing.
 use mathlib.Core.Path.{_≡_, refl, sym, ap, ap₂, _∙_}
 use mathlib.Core.Bool.{Bool, true, false}
-use mathlib.Core.List.{List, [], _∷_, _++_, map}
+use mathlib.Core.List.{List, [], _∷_, map}
 use Prim.Native.Nat.{ℕ, suc, _+_, _≤_, _<_}
 use native.Mathlib.Omega.{arith}
 use lib.Dec.{leb}
 use lib.IntN.{pos, negsuc}
 use lib.ListN.{length, take, drop, take-append-drop}
-use lib.Seq.{sets, sets-eq, length-sets, take-at, take-all, length-take-le}
+use lib.Seq.{sets, length-sets, take-at, take-all, length-take-le}
 use borrow.Author.Tests.{leb-true, leb-false, ne-eqb}
 use Rattle.model.specs.Lists.{over}
 use Rattle.model.specs.Soft.{Soft, finite, certain, _at_, mark, wordOf}
 use Rattle.model.specs.Bounds.{Under, limit}
+use Rattle.reader.proofs.Stores.{sets-over}
 use Rattle.printer.specs.Put.{Put, Printed}
 use Rattle.printer.specs.Text.{softOf}
 use Rattle.printer.proofs.Puts.{sets-append, sets-out}
 
 -- text from the start on, as far as there is room
-sets-room : (t o : List ℕ) → length t ≤ length o → sets o 0 t ≡ over t o
-unfolding over
-sets-room t o h =
-    let n : 0 + length t ≡ length t = omega arith in
-    sets-eq t o 0 (omega arith) ∙ ap (λ (k : ℕ). t ++ drop k o) n
-
 sets-front : (t o : List ℕ) → sets o 0 t ≡ over (take (length o) t) o
 sets-front t o = go (leb (length t) (length o)) refl
   where
     go : (b : Bool) → leb (length t) (length o) ≡ b → sets o 0 t ≡ over (take (length o) t) o
     go true e =
         let h : length t ≤ length o = leb-true (length t) (length o) e in
-        sets-room t o h ∙ ap (λ (r : List ℕ). over r o) (sym (take-all (length o) t h))
+        sets-over t o h ∙ ap (λ (r : List ℕ). over r o) (sym (take-all (length o) t h))
     go false e =
         let m : length (take (length o) t) ≡ length o = length-take-le (length o) t (omega (arith, leb-false (length t) (length o) e)) in
         ap (sets o 0) (sym (take-append-drop (length o) t))
         ∙ sets-append (take (length o) t) (drop (length o) t) o 0
         ∙ sets-out (drop (length o) t) (sets o 0 (take (length o) t)) (0 + length (take (length o) t))
         (omega (arith, length-sets o 0 (take (length o) t)))
-        ∙ sets-room (take (length o) t) o (omega arith)
+        ∙ sets-over (take (length o) t) o (omega arith)
 
 pub printed : {t o o₁ : List ℕ} {j : ℕ} (most : ℕ) → length t ≤ most → Put t o 0 o₁ j → Printed t most o o₁ j
 printed {t} {o} {o₁} {j} most h p = record {

@@ -60,6 +60,6 @@ pub count-plain : (z : ℤ) → ltZ z (pos 0) ≡ false → natAbs z ≡ count z
 count-plain (pos n) e = refl
 count-plain (negsuc n) e = absurd (subst T e tt)
 
-pub count-cast : (z : ℤ) → SFits w32 z → ltZ z (pos 0) ≡ false → T (nonNeg (toZ w32 (ofZ w32 z))) × Fits w32 (natAbs (toZ w32 (ofZ w32 z)))
-count-cast (pos n) f e = rw (toZ-ofZ f) (tt, record { fits = omega (arith, f .sfits) })
-count-cast (negsuc n) f e = absurd (subst T e tt)
+pub plain-cast : (z : ℤ) → SFits w32 z → ltZ z (pos 0) ≡ false → T (nonNeg (toZ w32 (ofZ w32 z))) × Fits w32 (natAbs (toZ w32 (ofZ w32 z)))
+plain-cast (pos n) f e = rw (toZ-ofZ f) (tt, record { fits = omega (arith, f .sfits) })
+plain-cast (negsuc n) f e = absurd (subst T e tt)
