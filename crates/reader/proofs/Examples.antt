@@ -1,13 +1,13 @@
 -- Document 01's line, the edges of a number and of a line, and the numbers of lines that are refused. Assumes nothing.
 use mathlib.Core.Path.{_≡_, refl}
-use mathlib.Core.Bool.{Bool, true, false}
+use mathlib.Core.Bool.{true, false}
 use mathlib.Core.List.{List, [], _∷_, _++_, map}
 use Prim.Native.Nat.{ℕ}
-use lib.IntN.{ℤ, pos, negsuc}
+use lib.IntN.{pos, negsuc}
 use lib.ListN.{replicate}
 use Rattle.model.specs.Lists.{atMost}
 use Rattle.model.specs.Refusals.{refusal, exponentTo, llrsInRange}
-use Rattle.reader.specs.Grammar.{firstOf, fields, allDigits, valueFrom, isNumber, value, allNumbers, Reading, malformed, reading, readFields, readLine}
+use Rattle.reader.specs.Grammar.{firstOf, fields, allDigits, valueFrom, isNumber, value, allNumbers, malformed, reading, readFields, readLine}
 use Rattle.reader.specs.Answers.{lineNumber}
 
 -- `11101000 1 3 -2 5 1 4 -6 2 -1`

@@ -1,9 +1,9 @@
 -- Signed words of 16, 32 and 64 bits as they are read back. Assumes nothing.
 use mathlib.Core.Path.{_≡_, refl, sym, ap, _∙_, subst}
-use mathlib.Core.Bool.{Bool, true, false, not}
+use mathlib.Core.Bool.{true, false}
 use Prim.Native.Nat.{ℕ, zero, suc, _≤_}
 use native.Mathlib.Omega.{arith}
-use lib.Dec.{T, leb, ltb}
+use lib.Dec.{T}
 use lib.IntN.{ℤ, pos, negsuc, negℤ, natAbs, _-ℤ_, +ℤ-idl}
 use lib.Signed.{ltZ, leZ, nonNeg}
 use borrow.Author.Tests.{lt-leb, le-leb, leb-true, ltb-true, ltb-false}
@@ -60,6 +60,6 @@ pub count-plain : (z : ℤ) → ltZ z (pos 0) ≡ false → natAbs z ≡ count z
 count-plain (pos n) e = refl
 count-plain (negsuc n) e = absurd (subst T e tt)
 
-pub count-cast : (z : ℤ) → SFits w32 z → ltZ z (pos 0) ≡ false → T (nonNeg (toZ w32 (ofZ w32 z))) × Fits w32 (natAbs (toZ w32 (ofZ w32 z)))
-count-cast (pos n) f e = rw (toZ-ofZ f) (tt, record { fits = omega (arith, f .sfits) })
-count-cast (negsuc n) f e = absurd (subst T e tt)
+pub plain-cast : (z : ℤ) → SFits w32 z → ltZ z (pos 0) ≡ false → T (nonNeg (toZ w32 (ofZ w32 z))) × Fits w32 (natAbs (toZ w32 (ofZ w32 z)))
+plain-cast (pos n) f e = rw (toZ-ofZ f) (tt, record { fits = omega (arith, f .sfits) })
+plain-cast (negsuc n) f e = absurd (subst T e tt)

@@ -1,12 +1,12 @@
 -- What the loops store: the front of a buffer is overwritten. Assumes nothing.
-use mathlib.Core.Path.{_≡_, refl, sym, ap, _∙_}
-use mathlib.Core.Bool.{true, _&&_}
+use mathlib.Core.Path.{_≡_, sym, ap, _∙_}
+use mathlib.Core.Bool.{true}
 use mathlib.Core.List.{List, [], _∷_, _++_, map}
-use Prim.Native.Nat.{ℕ, suc, _+_, _-_, _≤_, _<_}
+use Prim.Native.Nat.{ℕ, _+_, _≤_, _<_}
 use native.Mathlib.Numerals.{add-one}
 use native.Mathlib.Omega.{arith}
 use lib.IntN.{ℤ}
-use lib.ListN.{length, take, drop, getD, set, length-set, length-map, drop-of-length-le}
+use lib.ListN.{length, drop, getD, set, length-set, length-map, drop-of-length-le}
 use lib.Seq.{drop-cons, sets, sets-eq}
 use Rattle.model.specs.Lists.{over}
 use Rattle.model.specs.Refusals.{llrsInRange}

@@ -4,7 +4,6 @@ ghost use mathlib.Core.Path.{_≡_};
 ghost use mathlib.Core.Bool.{true};
 ghost use mathlib.Core.List.{map};
 ghost use Prim.Native.Nat.{_+_, _-_, _<_, _≤_, max};
-ghost use lib.IntN.{pos};
 ghost use lib.ListN.{length, drop};
 ghost use Rattle.model.specs.Lists.{over};
 ghost use Rattle.model.specs.Soft.{signed};
@@ -13,12 +12,13 @@ ghost use Rattle.reader.specs.Grammar.{firstOf, fields, isDigit, isDigit
 ghost use Rattle.reader.specs.Answers.{count, maskOf, llrsOf, lineNumber, lineSize, lineSweeps, lineMask, lineLlrs};
 ghost use Rattle.reader.specs.Steps.{sizeOf, signedSize, numberOf, isValue, valueOr, isLlr, rest, llrsRead, partsFrom, partsOf, fieldsNumber, partsNumber, partsSize, partsSweeps};
 
-// The largest number of sweeps, and the largest number of bytes of a line with its line feed.
+// Sweeps run from 1 to this.
 const MAX_SWEEPS: u32 = 16;
 
+// A line has at most this many bytes with its line feed.
 const MAX_LINE: usize = 16384;
 
-// Where the first b stands, from a position on; the end if there is none.
+// Where the first b stands, from a position on; the end if there is none, and a position beyond the end itself.
 pub fn find(s: &[u8], from: usize, b: u8) -> usize
     ensures { λ r. ⌜ (r ≡ from + firstOf b (drop from (now (s .entry)))) × (r ≤ max from (length (now (s .entry)))) ⌝ }
 {
@@ -153,6 +153,7 @@ fn read_number(s: &[u8]) -> Number
     signed_number(false, size)
 }
 
+// Whether a field was a number.
 fn is_value(n: Number) -> bool
     ensures { λ r. ⌜ r ≡ isValue n ⌝ }
 {
@@ -162,6 +163,7 @@ fn is_value(n: Number) -> bool
     }
 }
 
+// The number; 0 if there is none.
 fn value_or(n: Number) -> i32
     ensures { λ r. ⌜ r ≡ valueOr n ⌝ }
 {
@@ -243,6 +245,7 @@ fn parts_from(digits: usize, bits: bool, sweeps: u32, llrs: Llrs) -> Parts
     }
 }
 
+// The parts of a line without its line feed.
 fn read_parts(line: &[u8]) -> Parts
     ensures { λ r. ⌜ r ≡ partsOf (readFields (fields (now (line .entry)))) ⌝ }
 {
@@ -350,6 +353,7 @@ fn refused(number: u32) -> Line
     }
 }
 
+// What is answered of a line by its parts.
 fn answer(parts: Parts) -> Line
     ensures { λ r. ⌜ (r .number ≡ partsNumber parts) × (r .size ≡ accepted (partsNumber parts) (partsSize parts) 0) × (r .sweeps ≡ accepted (partsNumber parts) (partsSweeps parts) 0) ⌝ }
 {
@@ -376,6 +380,7 @@ fn store_digits(field: &[u8], mask: &mut [u8])
     }
 }
 
+// An LLR as a word of 16 bits.
 fn llr_word(z: i32) -> i16
     requires { ⌜ isLlr z ≡ true ⌝ }
     ensures { λ r. ⌜ r ≡ z ⌝ }
@@ -413,6 +418,7 @@ fn store(line: &[u8], mask: &mut [u8], llrs: &mut [i16])
     store_llrs(line, e + 1, llrs);
 }
 
+// A line without its line feed.
 fn read_fields(line: &[u8], mask: &mut [u8], llrs: &mut [i16]) -> Line
     requires { ⌜ (1024 ≤ length (now mask)) × (1024 ≤ length (now llrs)) ⌝ }
     ensures { λ r. ⌜ (r .number ≡ lineNumber (readFields (fields (now (line .entry))))) × (r .size ≡ lineSize (readFields (fields (now (line .entry))))) × (r .sweeps ≡ lineSweeps (readFields (fields (now (line .entry))))) ⌝ }

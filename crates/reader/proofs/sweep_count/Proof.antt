@@ -1,11 +1,11 @@
 -- `reader::sweep_count` meets its contract, by the sign of the sweeps. Assumes nothing.
 use mir.Facts.{toZ-ofZ}
-use Rattle.reader.proofs.Signs.{count-cast, count-negative, count-plain}
+use Rattle.reader.proofs.Signs.{plain-cast, count-negative, count-plain}
 use Rattle.reader.proofs.sweep_count.Statement.{statement}
 use Rattle.reader.proofs.sweep_count.Tie as tie
 
 cast-result : tie.Need-cast-result
-cast-result c = count-cast (c .before .args .sweeps) (c .before .fits .sweeps) (rw (toZ-ofZ (c .before .fits .sweeps)) at (c .if1 .left))
+cast-result c = plain-cast (c .before .args .sweeps) (c .before .fits .sweeps) (rw (toZ-ofZ (c .before .fits .sweeps)) at (c .if1 .left))
 
 returns : tie.Need-returns
 returns c = count-negative (c .before .args .sweeps) (rw (toZ-ofZ (c .before .fits .sweeps)) at (c .if1 .taken))

@@ -1,0 +1,81 @@
+-- How long the texts are. Assumes nothing.
+use mathlib.Core.Path.{_≡_, refl, sym, ap}
+use mathlib.Core.Bool.{Bool, true, false, cond}
+use mathlib.Core.List.{List, [], _∷_, _++_, map}
+use Prim.Native.Nat.{ℕ, zero, suc, _+_, _*_, _/_, _%_, _^_, _≤_, _<_}
+use native.Mathlib.Omega.{arith}
+use lib.Dec.{ltb, eqb}
+use lib.IntN.{ℤ, pos, negsuc}
+use lib.ListN.{length, length-append, length-map}
+use lib.Signed.{mag}
+use borrow.Author.Tests.{ltb-true, ltb-false}
+use Rattle.model.specs.Soft.{finite, certain, mark}
+use Rattle.model.specs.Scan.{Decoded}
+use Rattle.words.specs.Words.{softOf}
+use Rattle.printer.specs.Text.{natText, intText, softText, bitText, bitsText, payloadText, spaced, okText, noText}
+use Rattle.printer.proofs.Texts.{nat-small, nat-large, okPieces, ok-pieces, no-pieces}
+
+-- 10, 100, 1000, ..
+abbrev lim : ℕ → ℕ
+lim zero = 10
+lim (suc k) = 10 * lim k
+
+nat-length : (k n : ℕ) → n < lim k → length (natText n) ≤ suc k
+nat-length zero n h = omega (arith, ap length (nat-small n h))
+nat-length (suc k) n h = go (ltb n 10) refl (nat-length k (n / 10) (omega arith))
+  where
+    go : (t : Bool) → ltb n 10 ≡ t → length (natText (n / 10)) ≤ suc k → length (natText n) ≤ suc (suc k)
+    go true e f = omega (arith, ap length (nat-small n (ltb-true n 10 e)))
+    go false e f = omega (arith, ap length (nat-large n (ltb-false n 10 e)), length-append (natText (n / 10)) ((48 + n % 10) ∷ []))
+
+nat-ten : (n : ℕ) → n < 2 ^ 32 → length (natText n) ≤ 10
+nat-ten n h = nat-length 9 n (omega arith)
+
+int-eleven : (z : ℤ) → mag z < 2 ^ 31 → length (intText z) ≤ 11
+unfolding intText
+int-eleven (pos n) h = let f : length (natText n) ≤ 10 = nat-ten n (omega arith) in omega arith
+int-eleven (negsuc n) h = let f : length (natText (suc n)) ≤ 10 = nat-ten (suc n) (omega arith) in omega arith
+
+pub soft-eleven : (z : ℤ) → mag z < 2 ^ 31 → length (softText (softOf z)) ≤ 11
+unfolding softText
+soft-eleven (pos n) h = go (eqb n mark)
+  where
+    go : (t : Bool) → length (softText (cond t certain (finite (pos n)))) ≤ 11
+    go true = omega arith
+    go false = int-eleven (pos n) h
+soft-eleven (negsuc n) h = int-eleven (negsuc n) h
+
+bits-length : (s : List ℕ) → length (bitsText s) ≡ length s
+unfolding bitsText
+bits-length s = length-map s bitText
+
+payload-length : (s : List ℕ) → length (payloadText s) ≤ length s + 1
+unfolding payloadText
+payload-length [] = omega arith
+payload-length (b ∷ s) = omega (arith, bits-length (b ∷ s))
+
+-- the lines, with 12 bytes for each soft value
+pieces-length : (n s h p : List ℕ) (k : ℕ) → length (okPieces n s h p k) ≡ length n + length s + length h + length p + 8
+pieces-length n s h p k =
+    omega (
+      arith,
+      length-append n (s ++ (32 ∷ (h ++ (32 ∷ (p ++ (32 ∷ k ∷ 10 ∷ [])))))),
+      length-append s (32 ∷ (h ++ (32 ∷ (p ++ (32 ∷ k ∷ 10 ∷ []))))),
+      length-append h (32 ∷ (p ++ (32 ∷ k ∷ 10 ∷ []))),
+      length-append p (32 ∷ k ∷ 10 ∷ []),
+    )
+
+pub ok-size : (cycles k : ℕ) (d : Decoded) → cycles < 2 ^ 32 → length (spaced (map softText (d .soft))) ≤ 12 * k
+    → length (okText cycles d) ≤ 12 * k + length (d .hard) + length (d .payload) + 19
+ok-size cycles k d h s =
+    omega (
+      arith,
+      nat-ten cycles h,
+      bits-length (d .hard),
+      payload-length (d .payload),
+      sym (ap length (ok-pieces cycles d)),
+      pieces-length (natText cycles) (spaced (map softText (d .soft))) (bitsText (d .hard)) (payloadText (d .payload)) (bitText (d .check)),
+    )
+
+pub no-size : (number : ℕ) → number < 2 ^ 32 → length (noText number) ≤ 14
+no-size number h = omega (arith, nat-ten number h, sym (ap length (no-pieces number)), length-append (natText number) (10 ∷ []))

@@ -1,0 +1,27 @@
+-- `printer::put_byte` meets its contract, by whether there is room. Assumes nothing.
+use mathlib.Core.Path.{refl, sym}
+use native.Mathlib.Omega.{arith}
+use lib.Seq.{set-out}
+use borrow.Author.Needs.{needs}
+use Rattle.printer.proofs.put_byte.Statement.{statement}
+use Rattle.printer.proofs.put_byte.Tie as tie
+
+slice-write-out : tie.Need-slice-write-out
+slice-write-out c = search needs
+
+add-result : tie.Need-add-result
+add-result c = search needs
+
+same-length : tie.Need-same-length
+same-length c = search needs
+
+returns : tie.Need-returns
+returns c = record { bytes = refl; ends = omega (arith, c .if1 .taken) }
+
+returns-2 : tie.Need-returns-2
+returns-2 c =
+    let a = c .before .args in
+    record { bytes = sym (set-out (a .out .now) (a .at) (a .b) (c .if1 .left)); ends = omega (arith, c .if1 .left) }
+
+pub put-byte-spec : {M : Type 1} → statement M
+put-byte-spec = tie.close (tie.spec slice-write-out add-result same-length returns returns-2)

@@ -1,0 +1,175 @@
+// Prints the program's answer into a buffer that the caller lends. Text that has no room is left out.
+ghost use mathlib.Core.Path.{_≡_};
+ghost use mathlib.Core.List.{[], _∷_, map};
+ghost use Prim.Native.Nat.{_+_, _*_, _<_, _≤_};
+ghost use lib.IntN.{natAbs};
+ghost use lib.ListN.{length};
+ghost use Rattle.words.specs.Words.{softOf};
+ghost use Rattle.printer.specs.Text.{inf, natText, intText, softText, bitText, bitsText, payloadText, spaced, okText, noText, decoded};
+ghost use Rattle.printer.specs.Put.{Put, Printed};
+
+// One byte, if there is room. Each function answers where its text ends.
+fn put_byte(b: u8, out: &mut [u8], at: usize) -> usize
+    ensures { λ r. ⌜ Put (b ∷ []) (now (out .entry)) at (now (out .exit)) r ⌝ }
+{
+    if at < out.len() {
+        out[at] = b;
+        return at + 1;
+    }
+    at
+}
+
+fn glyph(d: u32) -> u8
+    requires { ⌜ d < 10 ⌝ }
+    ensures { λ r. ⌜ r ≡ 48 + d ⌝ }
+{
+    b'0' + (d as u8)
+}
+
+fn put_digits(n: u32, out: &mut [u8], at: usize) -> usize
+    ensures { λ r. ⌜ Put (natText n) (now (out .entry)) at (now (out .exit)) r ⌝ }
+{
+    if n < 10 {
+        let g = glyph(n);
+        return put_byte(g, out, at);
+    }
+    let e = put_digits(n / 10, out, at);
+    let g = glyph(n % 10);
+    put_byte(g, out, e)
+}
+
+fn magnitude(z: i32) -> u32
+    ensures { λ r. ⌜ r ≡ natAbs z ⌝ }
+{
+    if z < 0 {
+        (0 - (z as i64)) as u32
+    } else {
+        z as u32
+    }
+}
+
+fn put_decimal(z: i32, out: &mut [u8], at: usize) -> usize
+    ensures { λ r. ⌜ Put (intText z) (now (out .entry)) at (now (out .exit)) r ⌝ }
+{
+    let n = magnitude(z);
+    if z < 0 {
+        let e = put_byte(b'-', out, at);
+        return put_digits(n, out, e);
+    }
+    put_digits(n, out, at)
+}
+
+fn put_inf(out: &mut [u8], at: usize) -> usize
+    ensures { λ r. ⌜ Put inf (now (out .entry)) at (now (out .exit)) r ⌝ }
+{
+    let a = put_byte(b'i', out, at);
+    let b = put_byte(b'n', out, a);
+    put_byte(b'f', out, b)
+}
+
+// A soft value by its word.
+fn put_soft(z: i32, out: &mut [u8], at: usize) -> usize
+    ensures { λ r. ⌜ Put (softText (softOf z)) (now (out .entry)) at (now (out .exit)) r ⌝ }
+{
+    if z == 2147483647 {
+        return put_inf(out, at);
+    }
+    put_decimal(z, out, at)
+}
+
+fn put_spaced(z: i32, out: &mut [u8], at: usize) -> usize
+    ensures { λ r. ⌜ Put (32 ∷ softText (softOf z)) (now (out .entry)) at (now (out .exit)) r ⌝ }
+{
+    let e = put_byte(b' ', out, at);
+    put_soft(z, out, e)
+}
+
+// Soft values by their words, each behind a space.
+fn put_softs(soft: &[i32], out: &mut [u8], at: usize) -> usize
+    ensures { λ r. ⌜ Put (spaced (map softText (map softOf (now (soft .entry))))) (now (out .entry)) at (now (out .exit)) r ⌝ }
+    ensures { λ _. ⌜ length (spaced (map softText (map softOf (now (soft .entry))))) ≤ 12 * length (now (soft .entry)) ⌝ }
+{
+    let mut e = at;
+    let mut i: usize = 0;
+    while i < soft.len() {
+        e = put_spaced(soft[i], out, e);
+        i += 1;
+    }
+    e
+}
+
+fn bit_glyph(b: u8) -> u8
+    ensures { λ r. ⌜ r ≡ bitText b ⌝ }
+{
+    if b == 0 { b'0' } else { b'1' }
+}
+
+fn put_bits(bits: &[u8], out: &mut [u8], at: usize) -> usize
+    ensures { λ r. ⌜ Put (bitsText (now (bits .entry))) (now (out .entry)) at (now (out .exit)) r ⌝ }
+{
+    let mut e = at;
+    let mut i: usize = 0;
+    while i < bits.len() {
+        let g = bit_glyph(bits[i]);
+        e = put_byte(g, out, e);
+        i += 1;
+    }
+    e
+}
+
+fn put_payload(bits: &[u8], out: &mut [u8], at: usize) -> usize
+    ensures { λ r. ⌜ Put (payloadText (now (bits .entry))) (now (out .entry)) at (now (out .exit)) r ⌝ }
+{
+    if bits.len() == 0 {
+        return put_byte(b'-', out, at);
+    }
+    put_bits(bits, out, at)
+}
+
+// The first field of two letters and the number behind it.
+fn put_head(a: u8, b: u8, n: u32, out: &mut [u8]) -> usize
+    ensures { λ r. ⌜ Put (a ∷ b ∷ 32 ∷ natText n) (now (out .entry)) 0 (now (out .exit)) r ⌝ }
+{
+    let p = put_byte(a, out, 0);
+    let q = put_byte(b, out, p);
+    let e = put_byte(b' ', out, q);
+    put_digits(n, out, e)
+}
+
+// The frozen check and the line feed.
+fn put_tail(check: u8, out: &mut [u8], at: usize) -> usize
+    ensures { λ r. ⌜ Put (32 ∷ bitText check ∷ 10 ∷ []) (now (out .entry)) at (now (out .exit)) r ⌝ }
+{
+    let p = put_byte(b' ', out, at);
+    let g = bit_glyph(check);
+    let q = put_byte(g, out, p);
+    put_byte(b'\n', out, q)
+}
+
+// The line of an accepted decode, by the words of its soft values, from the buffer's start on; answers its length.
+pub fn print_decoded(
+    cycles: u32,
+    soft: &[i32],
+    hard: &[u8],
+    payload: &[u8],
+    check: u8,
+    out: &mut [u8],
+) -> usize
+    ensures { λ r. ⌜ Printed (okText cycles (decoded (map softOf (now (soft .entry))) (now (hard .entry)) (now (payload .entry)) check)) (12 * length (now (soft .entry)) + length (now (hard .entry)) + length (now (payload .entry)) + 19) (now (out .entry)) (now (out .exit)) r ⌝ }
+{
+    let a = put_head(b'o', b'k', cycles, out);
+    let b = put_softs(soft, out, a);
+    let c = put_byte(b' ', out, b);
+    let d = put_bits(hard, out, c);
+    let e = put_byte(b' ', out, d);
+    let f = put_payload(payload, out, e);
+    put_tail(check, out, f)
+}
+
+// The line of a refusal, from the buffer's start on; answers its length.
+pub fn print_refusal(number: u32, out: &mut [u8]) -> usize
+    ensures { λ r. ⌜ Printed (noText number) 14 (now (out .entry)) (now (out .exit)) r ⌝ }
+{
+    let a = put_head(b'n', b'o', number, out);
+    put_byte(b'\n', out, a)
+}
