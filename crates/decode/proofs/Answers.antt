@@ -25,7 +25,8 @@ use Rattle.words.proofs.Laws.{soft-fin, soft-word, word-in}
 use Rattle.words.proofs.Store.{write-in, length-write}
 use Rattle.scan.specs.Space.{Decodable}
 use Rattle.decisions.specs.Bits.{decisionAt}
-use Rattle.decode.specs.Calls.{callOf, inputNumber, Passed, Answered, Written, Readable, wordDecisions}
+use Rattle.decode.specs.Calls.{callOf, Answered, Written}
+use Rattle.decode.specs.Steps.{inputNumber, Passed, Readable, wordDecisions}
 use Rattle.decode.proofs.Bits.{write-front}
 use Rattle.model.specs.Plans as plans
 

@@ -20,7 +20,7 @@ use Rattle.words.specs.Words.{write}
 use Rattle.words.proofs.Store.{write-is}
 use Rattle.encode.specs.Answers.{transformNumber, transformBytes}
 use Rattle.decisions.specs.Bits.{decisionAt}
-use Rattle.decode.specs.Calls.{Sized, Readable, wordDecisions}
+use Rattle.decode.specs.Steps.{Sized, Readable, wordDecisions}
 use Rattle.decode.proofs.Lists.{length-over}
 
 -- the front of an overwritten buffer, and what follows it

@@ -13,7 +13,7 @@ use Rattle.model.specs.Refusals.{refusal, row-5, row-6, row-7, exponent, maxSwe
 use Rattle.model.proofs.Lists.{T-true, true-T, and-r}
 use Rattle.plans.specs.Faults.{faultNumber, faultCycles}
 use Rattle.plans.proofs.Faults.{staged, fault-allowed, fault-then}
-use Rattle.decode.specs.Calls.{inputNumber, InputTests}
+use Rattle.decode.specs.Steps.{inputNumber, InputTests}
 use Rattle.model.specs.Plans as model
 
 -- a number that is not 0 has no passed inputs to show

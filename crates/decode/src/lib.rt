@@ -20,7 +20,8 @@ ghost use Rattle.model.specs.Lists.{bit, over};
 ghost use Rattle.model.specs.Encoding.{payloadOf, frozenZero};
 ghost use Rattle.model.specs.Encoding as encoding;
 ghost use Rattle.model.specs.Refusals.{exponent, maxSweeps, llrsInRange, refusal, row-11, row-12};
-ghost use Rattle.decode.specs.Calls.{callOf, Answered, Written, InputTests, Sized, Readable, wordDecisions};
+ghost use Rattle.decode.specs.Calls.{callOf, Answered, Written};
+ghost use Rattle.decode.specs.Steps.{InputTests, Sized, Readable, wordDecisions};
 
 // What a decode answers: the number, and for an accepted call the cycles and the frozen check.
 pub struct Decoded {
