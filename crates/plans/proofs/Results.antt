@@ -43,7 +43,7 @@ module _ (mask plan : List ℕ) (number : 0 ≡ planNumber mask (length plan)) w
       go true p b q e = absurd (omega arith)
 
   -- the first 2N bytes at exit are the planner's
-  front : (out : List ℕ) → out ≡ planBytes mask plan → take (2 * length mask) out ≡ plannerPlan (exponent (length mask)) mask
+  pub front : (out : List ℕ) → out ≡ planBytes mask plan → take (2 * length mask) out ≡ plannerPlan (exponent (length mask)) mask
   unfolding planBytes over
   front out e =
       let n : ℕ = exponent (length mask) in

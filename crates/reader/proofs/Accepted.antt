@@ -16,16 +16,8 @@ use Rattle.model.specs.Refusals.{Test, test, refusal, exponent, maxSweeps, llrs
 use Rattle.model.proofs.Refusals.{exponent-power}
 use Rattle.reader.specs.Grammar.{Reading, malformed, reading}
 use Rattle.reader.specs.Answers.{maskOf, llrsOf, count, sweepsOf, lineNumber, lineSize, lineSweeps, lineMask, lineLlrs}
+use Rattle.reader.specs.Steps.{Fit}
 use Rattle.reader.proofs.Fields.{and-both}
-
-pub record Accepted (line : Reading) : Type 0 where
-  pub allowed : exponent (length (maskOf line)) ≡ 0 → ⊥
-  pub small : length (maskOf line) ≤ 1024
-  pub bits : atMost maxMask (maskOf line) ≡ true
-  pub same : length (llrsOf line) ≡ length (maskOf line)
-  pub some : 1 ≤ sweepsOf line
-  pub most : sweepsOf line ≤ maxSweeps
-  pub range : llrsInRange (llrsOf line) ≡ true
 
 -- a test of a number that is not 0 passes where the number of all is 0
 passes : (number : ℕ) (p : Bool) (ts : List Test) → (number ≡ 0 → ⊥) → refusal (test number p ∷ ts) ≡ 0 → (p ≡ true) × (refusal ts ≡ 0)
@@ -39,7 +31,7 @@ power-small N h =
     let m : 2 ^ exponent N ≤ 1024 = pow-mono (p .1) in
     omega (arith, p .0)
 
-pub line-accepted : (line : Reading) → lineNumber line ≡ 0 → Accepted line
+pub line-accepted : (line : Reading) → lineNumber line ≡ 0 → Fit (maskOf line) (sweepsOf line) (llrsOf line)
 unfolding lineNumber
 line-accepted malformed e = absurd (omega arith)
 line-accepted (reading mask sweeps llrs) e =

@@ -19,7 +19,7 @@ use Rattle.reader.specs.Steps.{rest, llrsRead, partsFrom, partsOf, parts
 use Rattle.reader.proofs.Bytes.{and-false}
 use Rattle.reader.proofs.Fields.{and-both, rest-split, rest-zero, rest-none}
 use Rattle.reader.proofs.Numbers.{parts-number, parts-size, parts-sweeps, accepted-no, accepted-yes}
-use Rattle.reader.proofs.Accepted.{Accepted, line-accepted}
+use Rattle.reader.proofs.Accepted.{line-accepted}
 
 -- ---- the mask field ends at a
 module _ (s : List ℕ) (a : ℕ) (e : a ≡ 0 + firstOf 32 (drop 0 s)) where
@@ -118,7 +118,7 @@ module _ (s : List ℕ) (z : lineNumber (readFields (fields s)) ≡ 0) (a : ℕ)
     pub stored : Stored
     stored =
         let w = whole s (take a s) sweeps (rest s (e + 1)) all z in
-        let g : Accepted (readFields (fields s)) = line-accepted (readFields (fields s)) z in
+        let g = line-accepted (readFields (fields s)) z in
         let n : length (maskOf (readFields (fields s))) ≡ a = ap length (w .mask) ∙ length-map (take a s) digit ∙ length-take-le a s l in
         let k : length (llrsOf (readFields (fields s))) ≡ length (rest s (e + 1)) = ap length (w .llrs) ∙ length-map (rest s (e + 1)) value in
         record {

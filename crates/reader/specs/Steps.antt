@@ -1,14 +1,15 @@
 -- What the steps of reading a line answer. Assumes nothing.
+use mathlib.Core.Path.{_≡_}
 use mathlib.Core.Bool.{Bool, true, false, cond, _&&_}
 use mathlib.Core.List.{List, [], _∷_, map}
-use Prim.Native.Nat.{ℕ}
+use Prim.Native.Nat.{ℕ, _≤_}
 use lib.Dec.{leb}
 use lib.IntN.{ℤ, pos, natAbs}
 use lib.ListN.{length, drop}
 use Rattle.model.specs.Soft.{signed}
 use Rattle.model.specs.Lists.{atMost}
 use Rattle.model.specs.Encoding.{maxMask}
-use Rattle.model.specs.Refusals.{test, refusal, row-1, row-3, row-4, llrsInRange}
+use Rattle.model.specs.Refusals.{test, refusal, row-1, row-3, row-4, exponent, maxSweeps, llrsInRange}
 use Rattle.reader.specs.declared.Size.{Size}
 use Rattle.reader.specs.declared.Size.the-variants.{Of, Unfit}
 use Rattle.reader.specs.declared.Number.{Number}
@@ -76,3 +77,13 @@ partsSize (Fields digits bits sweeps llrs inRange) = digits
 abbrev pub partsSweeps : Parts → ℕ
 partsSweeps Malformed = 0
 partsSweeps (Fields digits bits sweeps llrs inRange) = sweeps
+
+-- ---- what the tests of a line let through: a mask, sweeps and LLRs
+pub record Fit (mask : List ℕ) (sweeps : ℕ) (llrs : List ℤ) : Type 0 where
+  pub allowed : exponent (length mask) ≡ 0 → ⊥
+  pub small : length mask ≤ 1024
+  pub bits : atMost maxMask mask ≡ true
+  pub same : length llrs ≡ length mask
+  pub some : 1 ≤ sweeps
+  pub most : sweeps ≤ maxSweeps
+  pub range : llrsInRange llrs ≡ true

@@ -1,0 +1,144 @@
+-- A decode of a line's mask, sweeps and LLRs: it is accepted, and what it leaves at the front of its buffers is SCAN's answer. Assumes nothing.
+use mathlib.Core.Path.{_≡_, refl, sym, ap, ap₂, _∙_}
+use mathlib.Core.Bool.{Bool, true, false, _&&_}
+use mathlib.Core.List.{List, [], _∷_, map}
+use Prim.Native.Nat.{ℕ, _+_, _*_, _^_, _≤_, _<_, min}
+use native.Mathlib.Nat.{mul-le-mul}
+use native.Mathlib.Omega.{arith}
+use borrow.Author.Tests.{eq-eqb, ne-eqb, le-leb}
+use lib.Dec.{T, eqb, leb}
+use lib.IntN.{ℤ}
+use lib.ListN.{length, take, drop, length-map, length-take}
+use lib.Seq.{take-at}
+use Rattle.model.specs.Lists.{over}
+use Rattle.model.specs.Soft.{Soft, finite, wordOf, _at_}
+use Rattle.model.specs.Encoding.{unfrozen, transform, payloadOf}
+use Rattle.model.specs.Scan.{scan, hardWord, decided, Decoded, decodeScan}
+use Rattle.model.specs.Bounds.{Under, limit}
+use Rattle.model.specs.Plans.{Allowed, isPlan, oneCut, cutsOfKinds, cycles}
+use Rattle.model.specs.Refusals.{Test, test, refusal, exponent, planNumber, DecodeCall, decodeNumber, decodeAnswer, decodeCycles, decodeCheck, decodeSoft, decodeHard, decodePayload}
+use Rattle.model.proofs.Lists.{T-true, true-T, length-tabulate}
+use Rattle.model.proofs.Bounds.{soft-under, cap-limit, under-mono}
+use Rattle.model.proofs.Refusals.{exponent-power, llrs-small}
+use Rattle.words.specs.Words.{softOf}
+use Rattle.decode.specs.Calls.{callOf, Answered, Written}
+use Rattle.decode.proofs.Answers.{scan-length}
+use Rattle.reader.specs.Steps.{Fit}
+use Rattle.printer.specs.Text.{okText, decoded}
+use Rattle.printer.specs.Put.{Printed}
+use Rattle.printer.proofs.Whole.{softs-back}
+use Rattle.line.specs.Program.{decodeText, maxText}
+use Rattle.line.proofs.Payloads.{length-payload, unfrozen-most}
+
+-- the same text, with more room
+pub reprinted : {t t′ o o₁ : List ℕ} {j most most′ : ℕ} → t ≡ t′ → most ≤ most′ → Printed t most o o₁ j → Printed t′ most′ o o₁ j
+reprinted {t} {t′} {o} e h p = record {
+  bytes = p .bytes ∙ ap (λ (x : List ℕ). over (take (length o) x) o) e;
+  ends = p .ends ∙ ap (λ (x : List ℕ). min (length x) (length o)) e;
+  size = omega (arith, p .size, ap length e);
+}
+
+-- the printer's bound for parts of the decoder's buffers
+pub room-enough : {A : Type 0} (n k : ℕ) (soft : List A) (hard payload : List ℕ) → length soft ≡ 1024 → length hard ≡ 1024 → length payload ≡ 1024
+    → 12 * length (take n soft) + length (take n hard) + length (take k payload) + 19 ≤ maxText
+room-enough n k soft hard payload a b e =
+    let s : length (take n soft) ≤ 1024 = omega (arith, length-take n soft) in
+    let h : length (take n hard) ≤ 1024 = omega (arith, length-take n hard) in
+    let p : length (take k payload) ≤ 1024 = omega (arith, length-take k payload) in
+    omega arith
+
+-- a test that is passed leaves the number to the others
+pass : (number : ℕ) (p : Bool) (ts : List Test) → p ≡ true → refusal ts ≡ 0 → refusal (test number p ∷ ts) ≡ 0
+unfolding refusal
+pass number p ts e h = rw e h
+
+none : refusal [] ≡ 0
+unfolding refusal
+none = refl
+
+both-true : {a b : Bool} → a ≡ true → b ≡ true → (a && b) ≡ true
+both-true e f = rw (e, f)
+
+-- what stands at the front of a buffer after it was overwritten
+front : {A : Type 0} (n : ℕ) (new old : List A) → length new ≡ n → take n (over new old) ≡ new
+unfolding over
+front n new old e = take-at new (drop (length new) old) n e
+
+-- an answer by its parts
+parts : (d : Decoded) (soft : List Soft) (hard payload : List ℕ) (check : ℕ) → soft ≡ d .soft → hard ≡ d .hard → payload ≡ d .payload → check ≡ d .check
+    → decoded soft hard payload check ≡ d
+parts d soft hard payload check a b e f = rw (a, b, e, f)
+
+-- the planner accepts the mask
+pub plan-accepted : {mask : List ℕ} {k : ℕ} {llrs : List ℤ} → Fit mask k llrs → (room : ℕ) → room ≡ 2048 → planNumber mask room ≡ 0
+unfolding planNumber
+plan-accepted {mask} f room e =
+    let few : length mask ≤ 1024 = f .small in
+    pass 1 _ _ (rw (ne-eqb (exponent (length mask)) 0 (f .allowed)))
+    (pass 2 _ _ (f .bits)
+    (pass 11 _ _ (le-leb (2 * length mask) room (omega arith)) none))
+
+module _ (mask plan : List ℕ) (k : ℕ) (llrs : List ℤ) (f : Fit mask k llrs) (A : Allowed (exponent (length mask)) plan mask) where
+  abbrev N : ℕ
+  N = length mask
+
+  abbrev n : ℕ
+  n = exponent (length mask)
+
+  abbrev answer : Decoded
+  answer = decodeScan (exponent (length mask)) mask (map finite llrs) k
+
+  work-room : N * (n + 3) ≤ 13312
+  work-room = let h : n + 3 ≤ 13 = omega (arith, exponent-power N (f .allowed) .1) in mul-le-mul (f .small) h
+
+  module _ (soft : List ℤ) (hard payload : List ℕ) (work : List ℤ) (rs : length soft ≡ 1024) (rh : length hard ≡ 1024) (rp : length payload ≡ 1024) (rw′ : length work ≡ 13312) where
+    abbrev call : DecodeCall
+    call = callOf mask plan k llrs soft hard payload work
+
+    number-zero : decodeNumber call ≡ 0
+    unfolding decodeNumber
+    number-zero =
+        let few : N ≤ 1024 = f .small in
+        pass 1 _ _ (rw (ne-eqb n 0 (f .allowed)))
+        (pass 2 _ _ (f .bits)
+        (pass 3 _ _ (eq-eqb (length llrs) N (f .same))
+        (pass 4 _ _ (both-true (le-leb 1 k (f .some)) (le-leb k 16 (f .most)))
+        (pass 5 _ _ (T-true (isPlan n plan) (A .bytes))
+        (pass 6 _ _ (both-true (T-true (oneCut n plan) (A .paths)) (T-true (cutsOfKinds plan n 1 mask) (A .kinds)))
+        (pass 7 _ _ (f .range)
+        (pass 11 _ _ (le-leb N (length soft) (omega arith))
+        (pass 11 _ _ (le-leb N (length hard) (omega arith))
+        (pass 11 _ _ (le-leb (unfrozen mask) (length payload) (omega (arith, unfrozen-most mask)))
+        (pass 12 _ _ (le-leb (N * (n + 3)) (length work) (omega (arith, work-room)))
+        none))))))))))
+
+    accept : eqb (decodeNumber call) 0 ≡ true
+    accept = eq-eqb (decodeNumber call) 0 number-zero
+
+    under : (j : ℕ) → j < 2 ^ n → Under limit (scan n mask (map finite llrs) k at j)
+    under j lt =
+        under-mono (scan n mask (map finite llrs) k at j) (let c = cap-limit n (exponent-power N (f .allowed) .1) in omega arith)
+        (soft-under n mask (map finite llrs) (llrs-small n llrs (true-T _ (f .range))) k j lt)
+
+    module _ (number c check : ℕ) (ans : Answered call number c check) where
+      cycles-are : c ≡ k * cycles plan n 1 mask
+      unfolding decodeCycles
+      cycles-are = ans .cycles-is ∙ rw accept
+
+      module _ (soft′ : List ℤ) (hard′ payload′ : List ℕ) (work′ : List ℤ) (w : Written call soft soft′ hard hard′ payload payload′ work work′) where
+        answer-is : (K : ℕ) → K ≡ unfrozen mask → decoded (map softOf (take N soft′)) (take N hard′) (take K payload′) check ≡ answer
+        unfolding decodeCheck decodeSoft decodeHard decodePayload decodeAnswer decodeScan decided hardWord
+        answer-is K eK =
+            let sized : N ≡ 2 ^ n = exponent-power N (f .allowed) .0 in
+            let S : List Soft = scan n mask (map finite llrs) k in
+            let long : length S ≡ 2 ^ n = scan-length n (f .allowed) mask (map finite llrs) k in
+            parts answer (map softOf (take N soft′)) (take N hard′) (take K payload′) check
+            (ap (λ (l : List ℤ). map softOf (take N l)) (w .soft-is ∙ rw accept)
+            ∙ ap (map softOf) (front N (map wordOf S) soft (length-map S wordOf ∙ long ∙ sym sized))
+            ∙ softs-back S (λ j lt. under j (omega (arith, long))))
+            (ap (take N) (w .hard-is ∙ rw accept) ∙ front N (answer .hard) hard (length-tabulate (2 ^ n) _ ∙ sym sized))
+            (ap (take K) (w .payload-is ∙ rw accept) ∙ front K (answer .payload) payload (length-payload mask _ ∙ sym eK))
+            (ans .check-is ∙ rw accept)
+
+        pub text-is : (K : ℕ) → K ≡ unfrozen mask → okText c (decoded (map softOf (take N soft′)) (take N hard′) (take K payload′) check) ≡ decodeText plan mask k llrs
+        text-is K eK = ap₂ okText cycles-are (answer-is K eK)

@@ -1,0 +1,4 @@
+pub mod Payloads
+pub mod Decodes
+pub mod Replies
+pub mod Examples

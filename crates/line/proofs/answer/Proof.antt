@@ -1,0 +1,94 @@
+-- `line::answer` meets its contract: a refused line is answered by its number, and an accepted one by its decode. Assumes nothing.
+use mathlib.Core.Path.{_≡_, sym, _∙_}
+use Prim.Native.Nat.{_≤_}
+use native.Mathlib.Omega.{arith}
+use lib.ListN.{length}
+use lib.Seq.{length-take-le}
+use Rattle.line.proofs.Decodes.{reprinted}
+use Rattle.line.proofs.Replies.{refused-text, long-enough, mask-count, llrs-count, line-fit, accepted-text}
+use borrow.Author.Needs.{needs}
+use Rattle.line.proofs.answer.Statement.{statement}
+use Rattle.line.proofs.answer.Tie as tie
+
+read-line-requires : tie.Need-read-line-requires
+read-line-requires c κs = search needs
+
+print-refusal-requires : tie.Need-print-refusal-requires
+print-refusal-requires c κs = search needs
+
+same-length : tie.Need-same-length
+same-length c = search needs
+
+returns : tie.Need-returns
+returns c =
+    let bytes = c .before .before .before .before .before .before .before .before .before .before .before .args .bytes .now in
+    let line = c .before .before .before .before .before .before .read-line in
+    reprinted (refused-text bytes _ (line .ensures .0 .0) (c .before .before .before .before .if1 .taken)) (omega arith) (c .before .before .print-refusal .ensures)
+
+cast-sweeps : tie.Need-cast-sweeps
+cast-sweeps c = search needs
+
+array-share-prefix-mask : tie.Need-array-share-prefix-mask
+array-share-prefix-mask c =
+    let bytes = c .before .before .before .before .before .before .before .before .args .bytes .now in
+    let line = c .before .before .before .read-line in
+    let zero-is = sym (line .ensures .0 .0) ∙ c .before .if1 .left in
+    long-enough _ (line .last .1 .0) (mask-count bytes zero-is (line .last .1 .0) _ (line .last .1 .1 .0) _ _ _ (line .ensures .0 .1) (line .ensures .0 .2) (line .ensures .1 .0) (line .ensures .1 .1))
+
+slice-aggregate-answer-planned : tie.Need-slice-aggregate-answer-planned
+slice-aggregate-answer-planned c =
+    let bytes = c .before .before .before .before .before .before .before .before .before .args .bytes .now in
+    let line = c .before .before .before .before .read-line in
+    let zero-is = sym (line .ensures .0 .0) ∙ c .before .before .if1 .left in
+    mask-count bytes zero-is (line .last .1 .0) _ (line .last .1 .1 .0) _ _ _ (line .ensures .0 .1) (line .ensures .0 .2) (line .ensures .1 .0) (line .ensures .1 .1)
+
+array-share-prefix-llrs : tie.Need-array-share-prefix-llrs
+array-share-prefix-llrs c =
+    let bytes = c .before .before .before .before .before .before .before .before .before .args .bytes .now in
+    let line = c .before .before .before .before .read-line in
+    let zero-is = sym (line .ensures .0 .0) ∙ c .before .before .if1 .left in
+    long-enough _ (line .last .1 .1 .0) (llrs-count bytes zero-is (line .last .1 .0) _ (line .last .1 .1 .0) _ _ _ (line .ensures .0 .1) (line .ensures .0 .2) (line .ensures .1 .0) (line .ensures .1 .1))
+
+slice-aggregate-answer-planned-2 : tie.Need-slice-aggregate-answer-planned-2
+slice-aggregate-answer-planned-2 c =
+    let bytes = c .before .before .before .before .before .before .before .before .before .before .args .bytes .now in
+    let line = c .before .before .before .before .before .read-line in
+    let zero-is = sym (line .ensures .0 .0) ∙ c .before .before .before .if1 .left in
+    llrs-count bytes zero-is (line .last .1 .0) _ (line .last .1 .1 .0) _ _ _ (line .ensures .0 .1) (line .ensures .0 .2) (line .ensures .1 .0) (line .ensures .1 .1)
+
+answer-planned-requires : tie.Need-answer-planned-requires
+answer-planned-requires c κs =
+    let bytes = c .before .before .before .before .before .before .before .before .before .before .before .args .bytes .now in
+    let line = c .before .before .before .before .before .before .read-line in
+    let zero-is = sym (line .ensures .0 .0) ∙ c .before .before .before .before .if1 .left in
+    line-fit bytes zero-is (line .last .1 .0) _ (line .last .1 .1 .0) _ _ _ (line .ensures .0 .1) (line .ensures .0 .2) (line .ensures .1 .0) (line .ensures .1 .1)
+
+same-length-2 : tie.Need-same-length-2
+same-length-2 c = search needs
+
+returns-2 : tie.Need-returns-2
+returns-2 c =
+    let bytes = c .before .before .before .before .before .before .before .before .before .before .before .before .before .before .args .bytes .now in
+    let line = c .before .before .before .before .before .before .before .before .before .read-line in
+    let zero-is = sym (line .ensures .0 .0) ∙ c .before .before .before .before .before .before .before .if1 .left in
+    reprinted
+    (accepted-text bytes zero-is (line .last .1 .0) _ (line .last .1 .1 .0) _ _ _ (line .ensures .0 .1) (line .ensures .0 .2) (line .ensures .1 .0) (line .ensures .1 .1))
+    (omega arith)
+    (c .before .before .answer-planned .ensures)
+
+pub answer-spec : {M : Type 1} → statement M
+answer-spec =
+    tie.close
+    (tie.spec
+    read-line-requires
+    print-refusal-requires
+    same-length
+    returns
+    cast-sweeps
+    array-share-prefix-mask
+    slice-aggregate-answer-planned
+    array-share-prefix-llrs
+    slice-aggregate-answer-planned-2
+    answer-planned-requires
+    same-length-2
+    returns-2)

@@ -1,0 +1,47 @@
+// The line program: reads one line from standard input and prints its answer.
+use libc::STDIN_FILENO;
+use libc::STDOUT_FILENO;
+ghost use mathlib.Core.Path.{_≡_};
+ghost use Prim.Native.Nat.{_+_, _<_, _≤_};
+ghost use lib.ListN.{length, take};
+ghost use Rattle.reader.specs.Grammar.{firstOf, feed};
+
+// One read, behind the first n bytes. It is made only where there is room and no line feed has come yet, so the program
+// never waits for more than the line.
+fn read_more(buf: &mut [u8], n: usize) -> usize
+    requires { ⌜ n < length (now buf) ⌝ }
+    requires { ⌜ firstOf feed (take n (now buf)) ≡ n ⌝ }
+    ensures { λ r. ⌜ n + r ≤ length (now (buf .exit)) ⌝ }
+    ensures { λ _. ⌜ take n (now (buf .exit)) ≡ take n (now (buf .entry)) ⌝ }
+{
+    let got = libc::read(STDIN_FILENO, &mut buf[n..]);
+    io::count(got, &buf[n..])
+}
+
+// Reads until a line feed has come, the buffer is full or the input ends; answers the number of bytes read.
+fn read_input(buf: &mut [u8]) -> usize
+    ensures { λ r. ⌜ r ≤ length (now (buf .exit)) ⌝ }
+{
+    let mut n: usize = 0;
+    while n < buf.len() {
+        let more = read_more(buf, n);
+        if more == 0 {
+            return n;
+        }
+        let e = n + more;
+        if reader::find(&buf[..e], n, b'\n') < e {
+            return e;
+        }
+        n = e;
+    }
+    n
+}
+
+// The buffers hold the longest line and the longest answer.
+fn main() {
+    let mut buf = [0u8; 16384];
+    let n = read_input(&mut buf);
+    let mut out = [0u8; 14355];
+    let k = line::answer(&buf[..n], &mut out);
+    io::write_all(STDOUT_FILENO, &out[..k]);
+}
