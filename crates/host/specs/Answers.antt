@@ -1,8 +1,29 @@
--- What a C host is answered: one number. Assumes nothing.
+-- What a C host is answered: one number; and the counts that the planner leaves. Assumes nothing.
 use mathlib.Core.Path.{_≡_}
+use mathlib.Core.List.{List}
 use Prim.Native.Nat.{ℕ, _+_, _*_, _^_}
-use Rattle.model.specs.Refusals.{DecodeCall, decodeNumber, decodeCycles, decodeCheck}
+use lib.ListN.{length}
+use Rattle.model.specs.Plans.{cycles, plannerPlan}
+use Rattle.model.specs.Refusals.{exponent, accepted, planNumber, planCounts, checkNumber, checkCycles, DecodeCall, decodeNumber, decodeCycles, decodeCheck}
 
--- number + 256 × cycles + 2 ^ 40 × frozen check
+-- a check of a plan: number + 256 × cycles of one sweep
+abbrev pub CheckAnswer : List ℕ → List ℕ → ℕ → Type 0
+CheckAnswer mask plan r = r ≡ checkNumber mask plan + 256 * checkCycles mask plan
+
+-- cycles of one sweep along the planner's plan; room is the length of the plan buffer
+unfoldable pub planCycles : List ℕ → ℕ → ℕ
+planCycles mask room =
+    let n : ℕ = exponent (length mask) in
+    accepted (planNumber mask room) (cycles (plannerPlan n mask) n 1 mask) 0
+
+-- the planner: number + 256 × cycles of one sweep
+abbrev pub PlanAnswer : List ℕ → ℕ → ℕ → Type 0
+PlanAnswer mask room r = r ≡ planNumber mask room + 256 * planCycles mask room
+
+-- the buffer of the six counts afterwards
+unfoldable pub hostCounts : List ℕ → ℕ → List ℕ → List ℕ
+hostCounts mask room counts = accepted (planNumber mask room) (planCounts mask room) counts
+
+-- a decode: number + 256 × cycles + 2 ^ 40 × frozen check
 abbrev pub DecodeAnswer : DecodeCall → ℕ → Type 0
 DecodeAnswer c r = r ≡ decodeNumber c + 256 * decodeCycles c + 2 ^ 40 * decodeCheck c

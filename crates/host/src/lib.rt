@@ -1,7 +1,98 @@
-// The library for a C host: numbers, and slices of bytes and words.
+// The library for a C host: numbers, and slices of bytes, words and samples. Each answer is one number.
 use decode::decode;
+use encode::Encoded;
+use encode::encode;
+use plans::check_plan;
+use plans::plan_mask;
+use samples::Channel;
+use samples::Converted;
+use samples::samples_to_llrs;
+ghost use mathlib.Core.Path.{_≡_};
+ghost use lib.ListN.{length};
+ghost use Rattle.model.specs.Refusals.{samplesNumber, samplesLlrs, encodeNumber, encodeWord, planBytes};
+ghost use Rattle.samples.specs.Cases as converted;
+ghost use Rattle.encode.specs.Answers as encoded;
 ghost use Rattle.decode.specs.Calls.{callOf, Written};
-ghost use Rattle.host.specs.Answers.{DecodeAnswer};
+ghost use Rattle.host.specs.Answers.{CheckAnswer, PlanAnswer, hostCounts, DecodeAnswer};
+
+// The number of the samples call's answer.
+fn converted_number(c: Converted) -> u64
+    ensures { λ r. ⌜ r ≡ converted.numberOf c ⌝ }
+{
+    match c {
+        Converted::Done => 0,
+        Converted::BadLength => 1,
+        Converted::BadMarks => 3,
+        Converted::BadVariance => 8,
+        Converted::BadSample => 9,
+        Converted::ShortOutput => 11,
+    }
+}
+
+// Samples to LLRs, at the noise variance. The answer is the number.
+#[no_mangle]
+pub extern "C" fn ruznavo_samples(
+    samples: &[f32],
+    marks: &[u8],
+    variance: f32,
+    llrs: &mut [i16],
+) -> u64
+    ensures { λ r. ⌜ r ≡ samplesNumber (now (samples .entry)) (now (marks .entry)) variance (length (now (llrs .entry))) ⌝ }
+    ensures { λ _. ⌜ now (llrs .exit) ≡ samplesLlrs (now (samples .entry)) (now (marks .entry)) variance (now (llrs .entry)) ⌝ }
+{
+    let channel = Channel { variance };
+    converted_number(samples_to_llrs(samples, marks, channel, llrs))
+}
+
+// The number of the encoder's answer.
+fn encoded_number(c: Encoded) -> u64
+    ensures { λ r. ⌜ r ≡ encoded.numberOf c ⌝ }
+{
+    match c {
+        Encoded::Done => 0,
+        Encoded::BadLength => 1,
+        Encoded::BadMask => 2,
+        Encoded::BadCount => 3,
+        Encoded::BadPayload => 10,
+        Encoded::ShortOutput => 11,
+    }
+}
+
+// The word of a payload. The answer is the number.
+#[no_mangle]
+pub extern "C" fn ruznavo_encode(mask: &[u8], payload: &[u8], word: &mut [u8]) -> u64
+    ensures { λ r. ⌜ r ≡ encodeNumber (now (mask .entry)) (now (payload .entry)) (length (now (word .entry))) ⌝ }
+    ensures { λ _. ⌜ now (word .exit) ≡ encodeWord (now (mask .entry)) (now (payload .entry)) (now (word .entry)) ⌝ }
+{
+    encoded_number(encode(mask, payload, word))
+}
+
+// A check of a plan. The answer is number + 256 × cycles of one sweep.
+#[no_mangle]
+pub extern "C" fn ruznavo_check_plan(mask: &[u8], plan: &[u8]) -> u64
+    ensures { λ r. ⌜ CheckAnswer (now (mask .entry)) (now (plan .entry)) r ⌝ }
+{
+    let c = check_plan(mask, plan);
+    c.number as u64 + 256 * c.cycles as u64
+}
+
+// The planner's plan, and the counts of its cut nodes by kind. The answer is number + 256 × cycles of one sweep.
+#[no_mangle]
+pub extern "C" fn ruznavo_plan(mask: &[u8], plan: &mut [u8], counts: &mut [u32; 6]) -> u64
+    ensures { λ r. ⌜ PlanAnswer (now (mask .entry)) (length (now (plan .entry))) r ⌝ }
+    ensures { λ _. ⌜ now (plan .exit) ≡ planBytes (now (mask .entry)) (now (plan .entry)) ⌝ }
+    ensures { λ _. ⌜ now (counts .exit) ≡ hostCounts (now (mask .entry)) (length (now (plan .entry))) (now (counts .entry)) ⌝ }
+{
+    let p = plan_mask(mask, plan);
+    if p.number != 0 {
+        return p.number as u64;
+    }
+    let by_kind = p.counts;
+    *counts = by_kind;
+    let size = 2 * mask.len();
+    let c = check_plan(mask, &plan[..size]);
+    256 * c.cycles as u64
+}
 
 // A decode. The answer is number + 256 × cycles + 2 ^ 40 × frozen check.
 #[no_mangle]

@@ -5,7 +5,7 @@ use mathlib.Core.Path.{_≡_, refl, sym, ap, _∙_}
 use mathlib.Core.Bool.{Bool, true, false, cond, not}
 use mathlib.Core.List.{List}
 use native.Mathlib.Omega.{arith}
-use borrow.Author.Tests.{eqb-false}
+use borrow.Author.Tests.{eqb-false, leb-true}
 use lib.Dec.{eqb, leb}
 use lib.ListN.{length, take, drop}
 use lib.Seq.{take-at}
@@ -30,17 +30,18 @@ best zero mask h M = absurd (h refl)
 best (suc t) mask h M = record { allowed = plan-allowed (suc t) mask M; least = plan-least t mask M; fewest = plan-fewest (suc t) mask M }
 
 module _ (mask plan : List ℕ) (number : 0 ≡ planNumber mask (length plan)) where
-  -- an accepted call has passed rows 1 and 2
-  passed : ((exponent (length mask) ≡ 0 → ⊥) × (atMost maxMask mask ≡ true))
+  -- an accepted call has passed rows 1, 2 and 11
+  pub passed : ((exponent (length mask) ≡ 0 → ⊥) × (atMost maxMask mask ≡ true) × (2 * length mask ≤ length plan))
   unfolding planNumber refusal
-  passed = go (eqb (exponent (length mask)) 0) refl (atMost maxMask mask) refl number
+  passed = go (eqb (exponent (length mask)) 0) refl (atMost maxMask mask) refl (leb (2 * length mask) (length plan)) refl number
     where
-      go : (a : Bool) → eqb (exponent (length mask)) 0 ≡ a → (b : Bool) → atMost maxMask mask ≡ b
-          → _≡_ {A = ℕ} 0 (cond (not a) (cond b (cond (leb (2 * length mask) (length plan)) 0 11) 2) 1)
-          → (exponent (length mask) ≡ 0 → ⊥) × (b ≡ true)
-      go false p true q e = (eqb-false (exponent (length mask)) 0 p, refl)
-      go false p false q e = absurd (omega arith)
-      go true p b q e = absurd (omega arith)
+      go : (a : Bool) → eqb (exponent (length mask)) 0 ≡ a → (b : Bool) → atMost maxMask mask ≡ b → (d : Bool) → leb (2 * length mask) (length plan) ≡ d
+          → _≡_ {A = ℕ} 0 (cond (not a) (cond b (cond d 0 11) 2) 1)
+          → (exponent (length mask) ≡ 0 → ⊥) × (b ≡ true) × (2 * length mask ≤ length plan)
+      go false p true q true r e = (eqb-false (exponent (length mask)) 0 p, refl, leb-true (2 * length mask) (length plan) r)
+      go false p true q false r e = absurd (omega arith)
+      go false p false q d r e = absurd (omega arith)
+      go true p b q d r e = absurd (omega arith)
 
   -- the first 2N bytes at exit are the planner's
   pub front : (out : List ℕ) → out ≡ planBytes mask plan → take (2 * length mask) out ≡ plannerPlan (exponent (length mask)) mask

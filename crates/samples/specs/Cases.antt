@@ -15,7 +15,7 @@ positionNamed Punctured = punctured
 positionNamed Shortened = shortened
 
 -- the number of each answer
-unfoldable pub numberOf : Converted → ℕ
+abbrev pub numberOf : Converted → ℕ
 numberOf Done = 0
 numberOf BadLength = 1
 numberOf BadMarks = 3

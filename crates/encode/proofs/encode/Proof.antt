@@ -12,7 +12,6 @@ use Rattle.model.specs.Encoding.{maxMask, unfrozen, encode}
 use Rattle.model.specs.Refusals.{exponent, encodeNumber}
 use Rattle.model.proofs.Lists.{true-T}
 use Rattle.model.proofs.Refusals.{exponent-power}
-use Rattle.encode.specs.Answers.{numberOf}
 use Rattle.encode.proofs.Calls.{number-1, number-2, number-3, number-10, number-11, number-0, refused, accepted, placed-bits, written}
 use Rattle.encode.proofs.encode.Statement.{statement}
 use Rattle.encode.proofs.encode.Tie as tie
@@ -50,7 +49,6 @@ exponent-of-requires : tie.Need-exponent-of-requires
 exponent-of-requires c κs = search needs
 
 returns : tie.Need-returns
-unfolding numberOf
 returns c =
     let a = c .before .before .before .before .before .args in
     refused (a .mask .now) (a .payload .now) (a .word .now) 0
@@ -60,7 +58,6 @@ mask-bytes-requires : tie.Need-mask-bytes-requires
 mask-bytes-requires c κs = search needs
 
 returns-2 : tie.Need-returns-2
-unfolding numberOf
 returns-2 c =
     let e1 = c .before .before in
     let a = start1 e1 .args in
@@ -72,7 +69,6 @@ unfrozen-of-requires : tie.Need-unfrozen-of-requires
 unfrozen-of-requires c κs = search needs
 
 returns-3 : tie.Need-returns-3
-unfolding numberOf
 returns-3 c =
     let e2 = c .before .before in
     let a = start2 e2 .args in
@@ -84,7 +80,6 @@ at-most-requires : tie.Need-at-most-requires
 at-most-requires c κs = search needs
 
 returns-4 : tie.Need-returns-4
-unfolding numberOf
 returns-4 c =
     let e3 = c .before .before in
     let e2 = e3 .before .before in
@@ -94,7 +89,6 @@ returns-4 c =
     (sym (c .before .at-most .ensures) ∙ not-true (c .before .at-most .result) (c .if4 .taken)))
 
 returns-5 : tie.Need-returns-5
-unfolding numberOf
 returns-5 c =
     let e4 = c .before in
     let e3 = e4 .before .before in
@@ -142,7 +136,6 @@ same-length : tie.Need-same-length
 same-length c = search needs
 
 returns-6 : tie.Need-returns-6
-unfolding numberOf
 returns-6 c =
     let e5 = c .before .before .before .before .before .before .before .before in
     let e1 = e5 .before .before .before .before .before .before .before in
