@@ -1,0 +1,50 @@
+/*
+ * The calls of ruznavo.h again, written from document 01 and not from the library: SCAN walked to the last leaf over
+ * 64-bit numbers, no plan followed, every definition taken literally. For tests and simulations.
+ *
+ * Each ref_ call returns the refusal number. A refused call writes nothing, and sets its other results to 0.
+ */
+#ifndef REFERENCE_H
+#define REFERENCE_H
+
+#include <stddef.h>
+#include <stdint.h>
+
+enum { REF_MAX_N = 1024, REF_MAX_STAGE = 10, REF_MAX_SWEEPS = 16, REF_KINDS = 6 };
+
+/* n of N = 2^n, from 1 to 10; 0 of any other number. */
+int ref_exponent(size_t N);
+
+/* K, the number of unfrozen positions. */
+size_t ref_unfrozen(const uint8_t *mask, size_t N);
+
+/* word becomes u times the polar matrix; both have N bytes. */
+void ref_transform(const uint8_t *u, uint8_t *word, size_t N);
+
+/* The kind of a node with m positions of the mask, in table order; -1 for none. */
+int ref_kind(const uint8_t *mask, size_t m);
+
+/* The kind of node p of the tree over a mask of N positions. */
+int ref_node_kind(const uint8_t *mask, size_t N, size_t p);
+
+/* Soft values after a number of sweeps, for accepted inputs. INT32_MAX is "certain". */
+void ref_scan(const uint8_t *mask, size_t N, const int16_t *llrs, size_t sweeps, int32_t *soft);
+
+int ref_samples(const float *samples, size_t N, const uint8_t *marks, size_t marks_length, float variance,
+                int16_t *llrs, size_t room);
+
+int ref_encode(const uint8_t *mask, size_t N, const uint8_t *payload, size_t payload_length, uint8_t *word,
+               size_t room);
+
+/* counts, of REF_KINDS words, is left as it was by a refused call. */
+int ref_plan(const uint8_t *mask, size_t N, uint8_t *plan, size_t room, uint32_t *counts, uint32_t *cycles);
+
+int ref_check_plan(const uint8_t *mask, size_t N, const uint8_t *plan, size_t plan_length, uint32_t *cycles);
+
+/* work is only measured and cleared. */
+int ref_decode(const uint8_t *mask, size_t N, const uint8_t *plan, size_t plan_length, size_t sweeps,
+               const int16_t *llrs, size_t llrs_length, int32_t *soft, size_t soft_room, uint8_t *hard,
+               size_t hard_room, uint8_t *payload, size_t payload_room, int32_t *work, size_t words, uint32_t *cycles,
+               int *check);
+
+#endif

@@ -1,0 +1,66 @@
+/*
+ * Measures the stack that each call uses at N = 1024: the call runs on a stack of its own that was filled with a
+ * pattern, and the bytes that no longer hold it are counted. Masks and plans are those that go deepest.
+ */
+#define _DEFAULT_SOURCE
+#include "codes.h"
+#include "random.h"
+#include "ruznavo.h"
+
+#include <stdio.h>
+#include <string.h>
+#include <ucontext.h>
+
+enum { N = RUZNAVO_MAX_N, STACK = 256 * 1024, PATTERN = 0xA5 };
+
+static uint8_t stack[STACK];
+static ucontext_t back, there;
+
+static uint8_t mask[N], plan[2 * N], payload[N], bits[N], marks[N];
+static float samples[N];
+static int16_t llrs[N];
+static int32_t soft[N], work[RUZNAVO_MAX_WORK_WORDS];
+static uint32_t counts[RUZNAVO_KINDS];
+static uint64_t answer;
+
+static void none(void) { answer = 0; }
+static void call_samples(void) { answer = ruznavo_samples(samples, N, marks, N, 1.0f, llrs, N); }
+static void call_encode(void) { answer = ruznavo_encode(mask, N, payload, N / 2, bits, N); }
+static void call_plan(void) { answer = ruznavo_plan(mask, N, plan, 2 * N, counts); }
+static void call_check_plan(void) { answer = ruznavo_check_plan(mask, N, plan, 2 * N); }
+static void call_decode(void) {
+    answer = ruznavo_decode(mask, N, plan, 2 * N, RUZNAVO_MAX_SWEEPS, llrs, N, soft, N, bits, N, payload, N, work,
+                            RUZNAVO_MAX_WORK_WORDS);
+}
+
+static size_t bytes_used(void (*call)(void)) {
+    memset(stack, PATTERN, STACK);
+    getcontext(&there);
+    there.uc_stack.ss_sp = stack;
+    there.uc_stack.ss_size = STACK;
+    there.uc_link = &back;
+    makecontext(&there, call, 0);
+    swapcontext(&back, &there);
+    size_t free_bytes = 0;
+    while (free_bytes < STACK && stack[free_bytes] == PATTERN) free_bytes++;
+    return STACK - free_bytes;
+}
+
+static int measure(const char *name, void (*call)(void)) {
+    size_t switching = bytes_used(none), used = bytes_used(call);
+    printf("stack of %s: %zu bytes\n", name, used - switching);
+    return ruznavo_number(answer) != RUZNAVO_OK;
+}
+
+int main(void) {
+    struct random r = {7};
+    /* Every other pair is unfrozen, frozen, which is of no kind: the planner goes down to the leaves. */
+    for (size_t i = 0; i < N; i++) {
+        mask[i] = (uint8_t)(i % 2 == 0 ? i / 2 % 2 : 1 - i / 2 % 2);
+        samples[i] = (float)random_gauss(&r);
+    }
+    int refused = measure("samples", call_samples) + measure("encode", call_encode) + measure("plan", call_plan);
+    leaf_plan(plan, N);
+    refused += measure("check_plan", call_check_plan) + measure("decode", call_decode);
+    return refused != 0;
+}

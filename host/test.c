@@ -1,0 +1,501 @@
+/*
+ * Compares the library with the reference on random calls, valid and damaged: the answer, every buffer with its tail,
+ * that inputs stay, and guard bytes and pages around every buffer.
+ *
+ *     test [SEED [CASES [FIRST]]]
+ *
+ * A difference prints seed and case number and exits 1; `test SEED 1 CASE` runs that case again.
+ */
+#define _DEFAULT_SOURCE
+#include "codes.h"
+#include "guarded.h"
+#include "random.h"
+#include "reference.h"
+#include "ruznavo.h"
+
+#include <inttypes.h>
+#include <signal.h>
+#include <stdio.h>
+#include <stdlib.h>
+#include <string.h>
+#include <unistd.h>
+
+/* The longest input that a damaged call has. */
+enum { LONGEST = 4 * REF_MAX_N };
+
+enum call { SAMPLES, ENCODE, PLAN, CHECK_PLAN, DECODE, CALLS };
+static const char *const call_names[CALLS] = {"samples", "encode", "plan", "check_plan", "decode"};
+
+/* The numbers that each call can answer, as bits. */
+static const unsigned answers[CALLS] = {
+    1u << 0 | 1u << 1 | 1u << 3 | 1u << 8 | 1u << 9 | 1u << 11,
+    1u << 0 | 1u << 1 | 1u << 2 | 1u << 3 | 1u << 10 | 1u << 11,
+    1u << 0 | 1u << 1 | 1u << 2 | 1u << 11,
+    1u << 0 | 1u << 1 | 1u << 2 | 1u << 5 | 1u << 6,
+    0xFFu | 1u << 11 | 1u << 12,
+};
+
+static uint64_t seed = 1, case_number;
+static uint64_t number_seen[CALLS][13], stage_seen[CALLS][REF_MAX_STAGE + 1], sweeps_seen[REF_MAX_SWEEPS + 1],
+    check_seen[2];
+
+enum slot { MASK, PLAN_BYTES, LLRS, SOFT, HARD, PAYLOAD, WORK, SAMPLE_VALUES, MARKS, WORD, COUNTS, SLOTS };
+static const char *const slot_names[SLOTS] = {"mask", "plan",    "llrs",  "soft", "hard",  "payload",
+                                              "work", "samples", "marks", "word", "counts"};
+static struct guarded slots[SLOTS];
+
+static void stop(const char *what) {
+    printf("%s: seed %" PRIu64 ", case %" PRIu64 "\n", what, seed, case_number);
+    exit(1);
+}
+
+static void fault(int signal) {
+    char text[96];
+    int length =
+        snprintf(text, sizeof text,
+                 "memory outside a buffer or an input touched (signal %d): seed %" PRIu64 ", case %" PRIu64 "\n",
+                 signal, seed, case_number);
+    if (write(STDOUT_FILENO, text, (size_t)(length < 95 ? length : 95)) < 0) _exit(2);
+    _exit(1);
+}
+
+/* ---- placing and comparing buffers */
+
+static void place(struct random *r, enum slot s, size_t count, size_t size, const void *content) {
+    guarded_place(&slots[s], r, count * size, size, content);
+}
+
+static void *buffer(enum slot s) { return guarded_buffer(&slots[s]); }
+static void *twin(enum slot s) { return guarded_twin(&slots[s]); }
+
+static void lock(const enum slot *inputs, size_t count, int writable) {
+    for (size_t i = 0; i < count; i++) guarded_writable(&slots[inputs[i]], writable);
+}
+
+static void compare(enum call call, uint64_t answer, int number, uint32_t cycles, int check, const enum slot *used,
+                    size_t count) {
+    uint64_t expected = (uint64_t)number + 256 * (uint64_t)cycles + ((uint64_t)check << 40);
+    if (answer != expected) {
+        printf("%s answers %" PRIx64 ", and %" PRIx64 " is expected\n", call_names[call], answer, expected);
+        stop("wrong answer");
+    }
+    for (size_t i = 0; i < count; i++)
+        if (guarded_differs(&slots[used[i]])) stop(call_names[call]);
+    number_seen[call][number]++;
+}
+
+/* ---- inputs */
+
+/* A length that is mostly not the right one, up to LONGEST. */
+static size_t other_length(struct random *r, size_t right) {
+    size_t choices[] = {
+        0, 1, 3, right - 1, right + 1, right / 2, 2 * right, 2048, random_below(r, 2100), random_below(r, right + 1)};
+    size_t length = choices[random_below(r, sizeof choices / sizeof *choices)];
+    return length > LONGEST ? LONGEST : length;
+}
+
+/* Room for an output: exact or longer. */
+static size_t enough(struct random *r, size_t needed) {
+    return needed + (random_chance(r, 0.5) ? 0 : random_below(r, 70));
+}
+
+static size_t too_short(struct random *r, size_t needed) {
+    if (needed == 0) return 0;
+    return random_chance(r, 0.5) ? needed - 1 : random_below(r, needed);
+}
+
+static void damage_byte(struct random *r, uint8_t *bytes, size_t length, uint8_t most) {
+    if (length)
+        bytes[random_below(r, length)] = (uint8_t)random_from(r, most + 1, random_chance(r, 0.5) ? most + 1 : 255);
+}
+
+static void random_bytes(struct random *r, uint8_t *bytes, size_t length) {
+    for (size_t i = 0; i < length; i++) bytes[i] = (uint8_t)random_below(r, 2);
+}
+
+struct code {
+    size_t N, K, mask_length;
+    int n;
+    uint8_t mask[LONGEST];
+};
+
+static void random_code(struct random *r, struct code *c) {
+    c->n = (int)random_from(r, 1, REF_MAX_STAGE);
+    c->N = c->mask_length = (size_t)1 << c->n;
+    random_bytes(r, c->mask, LONGEST);
+    random_mask(r, c->mask, c->N);
+    c->K = ref_unfrozen(c->mask, c->N);
+}
+
+/* How many inputs of a call are damaged: none in half of the calls. */
+static int damages(struct random *r) { return random_chance(r, 0.5) ? 0 : (int)random_from(r, 1, 3); }
+
+static void damage_mask(struct random *r, struct code *c) {
+    switch (random_below(r, 3)) {
+    case 0: c->mask_length = other_length(r, c->N); break;
+    case 1: damage_byte(r, c->mask, c->N, 1); break;
+    default: c->mask[random_below(r, c->N)] ^= 1;
+    }
+}
+
+/* ---- samples */
+
+static float float_of(uint32_t bits) {
+    float f;
+    memcpy(&f, &bits, sizeof f);
+    return f;
+}
+
+static float random_float(struct random *r) {
+    static const float special[] = {0.0f,     -0.0f,    0.125f,    0.25f,  -0.25f,  0.75f,
+                                    16383.5f, 16384.0f, -16383.5f, 1e-45f, 3.4e38f, -3.4e38f};
+    switch (random_below(r, 5)) {
+    case 0: return float_of((uint32_t)random_bits(r));
+    case 1: return special[random_below(r, sizeof special / sizeof *special)];
+    case 2: return (float)random_from(r, -140000, 140000) / 4; /* halves and quarters */
+    case 3: return (float)(1.0 + random_gauss(r));
+    default: return (float)(random_gauss(r) * pow(10, (double)random_from(r, -6, 6)));
+    }
+}
+
+static float finite_float(struct random *r) {
+    float f = random_float(r);
+    return isfinite(f) ? f : 1.0f;
+}
+
+/* Neighbours of values at which a rounding turns: y with 2y / v near a whole number and a half. */
+static float near_half(struct random *r, float v) {
+    float y = (float)((double)random_from(r, -32768, 32767) + 0.5) * v / 2;
+    float toward = random_chance(r, 0.5) ? -INFINITY : INFINITY;
+    y = random_chance(r, 0.5) ? y : nextafterf(y, toward);
+    return isfinite(y) ? y : 0;
+}
+
+static float random_variance(struct random *r) {
+    static const float special[] = {1.0f, 0.5f, 2.0f, 1e-45f, 1.17549435e-38f, 3.4028235e38f};
+    if (random_chance(r, 0.4)) return special[random_below(r, sizeof special / sizeof *special)];
+    float v = fabsf(finite_float(r));
+    return v > 0 ? v : 1.0f;
+}
+
+static float bad_variance(struct random *r) {
+    static const uint32_t bits[] = {0,          0x80000000, 0x7F800000, 0xFF800000, 0x7FC00000,
+                                    0xFFC00000, 0x7F800001, 0x80000001, 0xBF800000};
+    return float_of(bits[random_below(r, sizeof bits / sizeof *bits)]);
+}
+
+static void samples_case(struct random *r) {
+    static float samples[LONGEST];
+    static uint8_t marks[LONGEST];
+    size_t N = (size_t)1 << random_from(r, 1, REF_MAX_STAGE), count = N, marks_length = N, room = enough(r, N);
+    float v = random_variance(r);
+    double sent = random_uniform(r);
+    for (size_t i = 0; i < LONGEST; i++) {
+        marks[i] = random_chance(r, sent) ? 0 : (uint8_t)random_from(r, 1, 2);
+        samples[i] = marks[i] ? random_float(r) : random_chance(r, 0.3) ? near_half(r, v) : finite_float(r);
+    }
+    for (int d = damages(r); d > 0; d--) switch (random_below(r, 6)) {
+        case 0: count = other_length(r, N); break;
+        case 1: marks_length = other_length(r, N); break;
+        case 2: v = bad_variance(r); break;
+        case 3: damage_byte(r, marks, N, 2); break;
+        case 4: samples[random_below(r, N)] = float_of(0x7F800000u | (uint32_t)random_bits(r)); break;
+        default: room = too_short(r, N);
+        }
+    place(r, SAMPLE_VALUES, count, sizeof *samples, samples);
+    place(r, MARKS, marks_length, 1, marks);
+    place(r, LLRS, room, sizeof(int16_t), NULL);
+    static const enum slot used[] = {SAMPLE_VALUES, MARKS, LLRS};
+    lock(used, 2, 0);
+    uint64_t answer = ruznavo_samples(buffer(SAMPLE_VALUES), count, buffer(MARKS), marks_length, v, buffer(LLRS), room);
+    lock(used, 2, 1);
+    int number = ref_samples(twin(SAMPLE_VALUES), count, twin(MARKS), marks_length, v, twin(LLRS), room);
+    compare(SAMPLES, answer, number, 0, 0, used, 3);
+    if (number == 0) stage_seen[SAMPLES][ref_exponent(count)]++;
+}
+
+/* ---- encoder */
+
+static void encode_case(struct random *r) {
+    static struct code c;
+    static uint8_t payload[LONGEST];
+    random_code(r, &c);
+    random_bytes(r, payload, LONGEST);
+    size_t payload_length = c.K, room = enough(r, c.N);
+    for (int d = damages(r); d > 0; d--) switch (random_below(r, 4)) {
+        case 0: damage_mask(r, &c); break;
+        case 1: payload_length = other_length(r, c.K + 1); break;
+        case 2: damage_byte(r, payload, c.K, 1); break;
+        default: room = too_short(r, c.N);
+        }
+    place(r, MASK, c.mask_length, 1, c.mask);
+    place(r, PAYLOAD, payload_length, 1, payload);
+    place(r, WORD, room, 1, NULL);
+    static const enum slot used[] = {MASK, PAYLOAD, WORD};
+    lock(used, 2, 0);
+    uint64_t answer = ruznavo_encode(buffer(MASK), c.mask_length, buffer(PAYLOAD), payload_length, buffer(WORD), room);
+    lock(used, 2, 1);
+    int number = ref_encode(twin(MASK), c.mask_length, twin(PAYLOAD), payload_length, twin(WORD), room);
+    compare(ENCODE, answer, number, 0, 0, used, 3);
+    if (number == 0) stage_seen[ENCODE][c.n]++;
+}
+
+/* ---- planner and check of a plan */
+
+static void plan_case(struct random *r) {
+    static struct code c;
+    random_code(r, &c);
+    size_t room = enough(r, 2 * c.N);
+    for (int d = damages(r); d > 0; d--) {
+        if (random_chance(r, 0.6))
+            damage_mask(r, &c);
+        else
+            room = too_short(r, 2 * c.N);
+    }
+    place(r, MASK, c.mask_length, 1, c.mask);
+    place(r, PLAN_BYTES, room, 1, NULL);
+    place(r, COUNTS, REF_KINDS, sizeof(uint32_t), NULL);
+    static const enum slot used[] = {MASK, PLAN_BYTES, COUNTS};
+    uint32_t cycles;
+    lock(used, 1, 0);
+    uint64_t answer = ruznavo_plan(buffer(MASK), c.mask_length, buffer(PLAN_BYTES), room, buffer(COUNTS));
+    lock(used, 1, 1);
+    int number = ref_plan(twin(MASK), c.mask_length, twin(PLAN_BYTES), room, twin(COUNTS), &cycles);
+    compare(PLAN, answer, number, cycles, 0, used, 3);
+    if (number == 0) stage_seen[PLAN][c.n]++;
+}
+
+struct plan {
+    size_t length;
+    uint8_t bytes[LONGEST];
+};
+
+/* The planner's plan, the leaf-only one, or a random allowed one. */
+static void any_plan(struct random *r, const struct code *c, struct plan *p) {
+    uint32_t counts[REF_KINDS], cycles;
+    random_bytes(r, p->bytes, LONGEST);
+    p->length = 2 * c->N;
+    switch (random_below(r, 3)) {
+    case 0: ref_plan(c->mask, c->N, p->bytes, p->length, counts, &cycles); break;
+    case 1: leaf_plan(p->bytes, c->N); break;
+    default: random_plan(r, c->mask, c->N, p->bytes);
+    }
+}
+
+static void damage_plan(struct random *r, const struct code *c, struct plan *p) {
+    size_t node = (size_t)random_from(r, 1, (int64_t)(2 * c->N - 1));
+    switch (random_below(r, 5)) {
+    case 0: p->length = other_length(r, 2 * c->N); break;
+    case 1: damage_byte(r, p->bytes, 2 * c->N, 1); break;
+    case 2: p->bytes[0] = 1; break;
+    case 3: p->bytes[node] ^= 1; break;
+    default: /* one cut moved to its node's parent, whatever its kind, or to its children */
+        if (p->bytes[node] && node < c->N)
+            p->bytes[2 * node] = p->bytes[2 * node + 1] = 1;
+        else if (node > 1)
+            p->bytes[node / 2] = 1;
+        p->bytes[node] = 0;
+    }
+}
+
+static void check_plan_case(struct random *r) {
+    static struct code c;
+    static struct plan p;
+    random_code(r, &c);
+    any_plan(r, &c, &p);
+    for (int d = damages(r); d > 0; d--) {
+        if (random_chance(r, 0.4))
+            damage_mask(r, &c);
+        else
+            damage_plan(r, &c, &p);
+    }
+    place(r, MASK, c.mask_length, 1, c.mask);
+    place(r, PLAN_BYTES, p.length, 1, p.bytes);
+    static const enum slot used[] = {MASK, PLAN_BYTES};
+    uint32_t cycles;
+    lock(used, 2, 0);
+    uint64_t answer = ruznavo_check_plan(buffer(MASK), c.mask_length, buffer(PLAN_BYTES), p.length);
+    lock(used, 2, 1);
+    int number = ref_check_plan(twin(MASK), c.mask_length, twin(PLAN_BYTES), p.length, &cycles);
+    compare(CHECK_PLAN, answer, number, cycles, 0, used, 2);
+    if (number == 0) stage_seen[CHECK_PLAN][c.n]++;
+}
+
+/* ---- decoder */
+
+/* LLRs of a noisy word of the code, at a random noise variance. */
+static void noisy_llrs(struct random *r, const struct code *c, int16_t *llrs) {
+    uint8_t payload[REF_MAX_N], word[REF_MAX_N];
+    double v = 0.2 + 1.5 * random_uniform(r);
+    random_bytes(r, payload, c->K);
+    ref_encode(c->mask, c->N, payload, c->K, word, c->N);
+    for (size_t i = 0; i < c->N; i++)
+        llrs[i] = (int16_t)lround(2 * ((word[i] ? -1 : 1) + sqrt(v) * random_gauss(r)) / v);
+}
+
+static void random_llrs(struct random *r, const struct code *c, int16_t *llrs) {
+    int64_t most = random_chance(r, 0.5) ? RUZNAVO_MAX_LLR : random_from(r, 0, 4);
+    for (size_t i = 0; i < LONGEST; i++) llrs[i] = (int16_t)random_from(r, -most, most);
+    switch (random_below(r, 4)) {
+    case 0:
+        for (size_t i = 0; i < c->N; i++) llrs[i] = random_chance(r, 0.5) ? RUZNAVO_MAX_LLR : -RUZNAVO_MAX_LLR;
+        break;
+    case 1:
+        for (size_t i = 0; i < c->N; i++) llrs[i] = RUZNAVO_MAX_LLR;
+        break;
+    case 2: noisy_llrs(r, c, llrs);
+    }
+}
+
+struct rooms {
+    size_t llrs, sweeps, soft, hard, payload, work;
+};
+
+static void damage_decode(struct random *r, struct code *c, struct plan *p, int16_t *llrs, struct rooms *m) {
+    static const size_t bad_sweeps[] = {0, 17, 18, 256, SIZE_MAX};
+    switch (random_below(r, 9)) {
+    case 0: damage_mask(r, c); break;
+    case 1: m->llrs = other_length(r, c->N); break;
+    case 2: m->sweeps = bad_sweeps[random_below(r, 5)]; break;
+    case 3: damage_plan(r, c, p); break;
+    case 4: llrs[random_below(r, c->N)] = INT16_MIN; break;
+    case 5: m->soft = too_short(r, c->N); break;
+    case 6: m->hard = too_short(r, c->N); break;
+    case 7: m->payload = too_short(r, c->K); break;
+    default: m->work = too_short(r, RUZNAVO_WORK_WORDS(c->N, c->n));
+    }
+}
+
+static void decode_case(struct random *r) {
+    static struct code c;
+    static struct plan p;
+    static int16_t llrs[LONGEST];
+    random_code(r, &c);
+    any_plan(r, &c, &p);
+    random_llrs(r, &c, llrs);
+    size_t sweeps = (size_t)random_from(r, 1, random_chance(r, 0.2) ? RUZNAVO_MAX_SWEEPS : 3);
+    struct rooms m = {
+        c.N, sweeps, enough(r, c.N), enough(r, c.N), enough(r, c.K), enough(r, RUZNAVO_WORK_WORDS(c.N, c.n))};
+    for (int d = damages(r); d > 0; d--) damage_decode(r, &c, &p, llrs, &m);
+    place(r, MASK, c.mask_length, 1, c.mask);
+    place(r, PLAN_BYTES, p.length, 1, p.bytes);
+    place(r, LLRS, m.llrs, sizeof(int16_t), llrs);
+    place(r, SOFT, m.soft, sizeof(int32_t), NULL);
+    place(r, HARD, m.hard, 1, NULL);
+    place(r, PAYLOAD, m.payload, 1, NULL);
+    place(r, WORK, m.work, sizeof(int32_t), NULL);
+    static const enum slot used[] = {MASK, PLAN_BYTES, LLRS, SOFT, HARD, PAYLOAD, WORK};
+    uint32_t cycles;
+    int check;
+    lock(used, 3, 0);
+    uint64_t answer =
+        ruznavo_decode(buffer(MASK), c.mask_length, buffer(PLAN_BYTES), p.length, m.sweeps, buffer(LLRS), m.llrs,
+                       buffer(SOFT), m.soft, buffer(HARD), m.hard, buffer(PAYLOAD), m.payload, buffer(WORK), m.work);
+    lock(used, 3, 1);
+    int number =
+        ref_decode(twin(MASK), c.mask_length, twin(PLAN_BYTES), p.length, m.sweeps, twin(LLRS), m.llrs, twin(SOFT),
+                   m.soft, twin(HARD), m.hard, twin(PAYLOAD), m.payload, twin(WORK), m.work, &cycles, &check);
+    compare(DECODE, answer, number, cycles, check, used, 7);
+    if (number != 0) return;
+    stage_seen[DECODE][c.n]++;
+    sweeps_seen[m.sweeps]++;
+    check_seen[check]++;
+}
+
+/* ---- document 01's frames, so that library and reference cannot be wrong alike there */
+
+struct frame {
+    const char *mask;
+    size_t sweeps;
+    int16_t llrs[8];
+    int32_t soft[8];
+    uint32_t cycles;
+};
+
+static const struct frame frames[] = {
+    {"11101000", 1, {3, -2, 5, 1, 4, -6, 2, -1}, {3, -4, 2, -7, 3, -2, 4, -5}, 10},
+    {"11101000", 2, {3, -2, 5, 1, 4, -6, 2, -1}, {3, -4, 2, -7, 3, -2, 4, -5}, 20},
+    {"1011", 1, {5, -3, 2, 1}, {-1, 2, RUZNAVO_CERTAIN, RUZNAVO_CERTAIN}, 6},
+    {"1011", 2, {5, -3, 2, 1}, {-3, 5, RUZNAVO_CERTAIN, RUZNAVO_CERTAIN}, 12},
+    {"10", 1, {7, -4}, {-4, 7}, 2},
+    {"1100", 1, {1, 2, 3, 4}, {3, 4, 1, 2}, 2},
+    {"11", 1, {7, -4}, {RUZNAVO_CERTAIN, RUZNAVO_CERTAIN}, 0},
+    {"00", 1, {7, -4}, {0, 0}, 0},
+};
+
+static void run_frame(const struct frame *f) {
+    uint8_t mask[8], plan[16], hard[8], payload[8];
+    uint32_t counts[RUZNAVO_KINDS];
+    int32_t soft[8], reference[8], work[48];
+    size_t N = strlen(f->mask);
+    for (size_t i = 0; i < N; i++) mask[i] = (uint8_t)(f->mask[i] - '0');
+    if (ruznavo_number(ruznavo_plan(mask, N, plan, 2 * N, counts))) stop("a frame's plan");
+    uint64_t answer =
+        ruznavo_decode(mask, N, plan, 2 * N, f->sweeps, f->llrs, N, soft, N, hard, N, payload, N, work, 48);
+    ref_scan(mask, N, f->llrs, f->sweeps, reference);
+    if (ruznavo_number(answer) || ruznavo_cycles(answer) != f->cycles) stop("a frame's answer");
+    if (memcmp(soft, f->soft, N * sizeof *soft) || memcmp(reference, f->soft, N * sizeof *soft))
+        stop("a frame's soft values");
+}
+
+static void run_frames(void) {
+    static const uint8_t mask[8] = {1, 1, 1, 0, 1, 0, 0, 0}, payload[4] = {0, 0, 1, 1},
+                         word[8] = {0, 1, 0, 1, 0, 1, 0, 1};
+    static const float samples[8] = {0.125f, 0.25f, -0.25f, 0.75f, 16383.5f, 16384.0f, 1.0f, NAN};
+    static const uint8_t marks[8] = {0, 0, 0, 0, 0, 0, 1, 2};
+    static const int16_t llrs[8] = {0, 1, -1, 2, 32767, 32767, 0, 32767};
+    uint8_t bits[2][8];
+    int16_t values[2][8];
+    for (size_t i = 0; i < sizeof frames / sizeof *frames; i++) run_frame(&frames[i]);
+    if (ruznavo_encode(mask, 8, payload, 4, bits[0], 8) || ref_encode(mask, 8, payload, 4, bits[1], 8))
+        stop("the word's answer");
+    if (memcmp(bits[0], word, 8) || memcmp(bits[1], word, 8)) stop("the word");
+    if (ruznavo_samples(samples, 8, marks, 8, 1, values[0], 8) || ref_samples(samples, 8, marks, 8, 1, values[1], 8))
+        stop("the samples' answer");
+    if (memcmp(values[0], llrs, sizeof llrs) || memcmp(values[1], llrs, sizeof llrs)) stop("the samples");
+}
+
+/* ---- what was tried */
+
+static void report(void) {
+    for (int call = 0; call < CALLS; call++) {
+        printf("%-10s", call_names[call]);
+        for (int number = 0; number <= 12; number++)
+            if (number_seen[call][number]) printf("  %d: %" PRIu64, number, number_seen[call][number]);
+        printf("\n");
+    }
+    printf("decodes accepted with frozen check 0: %" PRIu64 ", 1: %" PRIu64 "\n", check_seen[0], check_seen[1]);
+}
+
+/* A run of some length has tried every number that a call can answer, every N, every sweep count and both checks. */
+static void all_tried(void) {
+    for (int call = 0; call < CALLS; call++) {
+        for (int number = 0; number <= 12; number++)
+            if ((number_seen[call][number] > 0) != (answers[call] >> number & 1))
+                stop("a number not tried, or not the call's");
+        for (int n = 1; n <= REF_MAX_STAGE; n++)
+            if (!stage_seen[call][n]) stop("an N not tried");
+    }
+    for (int sweeps = 1; sweeps <= REF_MAX_SWEEPS; sweeps++)
+        if (!sweeps_seen[sweeps]) stop("a number of sweeps not tried");
+    if (!check_seen[0] || !check_seen[1]) stop("a frozen check not tried");
+}
+
+int main(int argc, char **argv) {
+    static void (*const run[CALLS])(struct random *) = {samples_case, encode_case, plan_case, check_plan_case,
+                                                        decode_case};
+    uint64_t cases = argc > 2 ? strtoull(argv[2], NULL, 10) : 50000, first = argc > 3 ? strtoull(argv[3], NULL, 10) : 0;
+    if (argc > 1) seed = strtoull(argv[1], NULL, 10);
+    signal(SIGSEGV, fault);
+    signal(SIGBUS, fault);
+    for (int s = 0; s < SLOTS; s++) guarded_map(&slots[s], slot_names[s]);
+    run_frames();
+    for (case_number = first; case_number < first + cases; case_number++) {
+        struct random r = random_case(seed, case_number);
+        run[case_number % CALLS](&r);
+    }
+    report();
+    if (cases >= 5000) all_tried();
+    printf("test: ok, seed %" PRIu64 ", %" PRIu64 " cases\n", seed, cases);
+    return 0;
+}
