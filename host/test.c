@@ -237,7 +237,7 @@ static void encode_case(struct random *r) {
     lock(used, 2, 1);
     int number = ref_encode(twin(MASK), c.mask_length, twin(PAYLOAD), payload_length, twin(WORD), room);
     compare(ENCODE, answer, number, 0, 0, used, 3);
-    if (number == 0) stage_seen[ENCODE][c.n]++;
+    if (number == 0) stage_seen[ENCODE][ref_exponent(c.mask_length)]++;
 }
 
 /* ---- planner and check of a plan */
@@ -262,7 +262,7 @@ static void plan_case(struct random *r) {
     lock(used, 1, 1);
     int number = ref_plan(twin(MASK), c.mask_length, twin(PLAN_BYTES), room, twin(COUNTS), &cycles);
     compare(PLAN, answer, number, cycles, 0, used, 3);
-    if (number == 0) stage_seen[PLAN][c.n]++;
+    if (number == 0) stage_seen[PLAN][ref_exponent(c.mask_length)]++;
 }
 
 struct plan {
@@ -318,7 +318,7 @@ static void check_plan_case(struct random *r) {
     lock(used, 2, 1);
     int number = ref_check_plan(twin(MASK), c.mask_length, twin(PLAN_BYTES), p.length, &cycles);
     compare(CHECK_PLAN, answer, number, cycles, 0, used, 2);
-    if (number == 0) stage_seen[CHECK_PLAN][c.n]++;
+    if (number == 0) stage_seen[CHECK_PLAN][ref_exponent(c.mask_length)]++;
 }
 
 /* ---- decoder */
@@ -397,7 +397,7 @@ static void decode_case(struct random *r) {
                    m.soft, twin(HARD), m.hard, twin(PAYLOAD), m.payload, twin(WORK), m.work, &cycles, &check);
     compare(DECODE, answer, number, cycles, check, used, 7);
     if (number != 0) return;
-    stage_seen[DECODE][c.n]++;
+    stage_seen[DECODE][ref_exponent(c.mask_length)]++;
     sweeps_seen[m.sweeps]++;
     check_seen[check]++;
 }
