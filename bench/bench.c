@@ -1,0 +1,248 @@
+// Times the proved library and the C baselines side by side, and compares what they answer and write first.
+//   bench             prints the tables of times
+//   bench FILE        the same, with the instructions that FILE lists, in the order of `bench count`
+//   bench count       calls each routine once for each frame inside count_here, for a profiler that counts there
+#define _POSIX_C_SOURCE 200809L
+#include "baseline.h"
+#include "channel.h"
+#include "refusals.h"
+#include "ruznavo.h"
+
+#include <stdio.h>
+#include <stdlib.h>
+#include <string.h>
+#include <time.h>
+
+enum { FRAMES = 16, LIBRARIES = 3, KINDS = RUZNAVO_KINDS };
+enum { PROVED, PLAIN, SSE2 };
+
+typedef struct {
+    const char *name;
+    decode_call *decode;
+    encode_call *encode;
+    plan_call *plan;
+    samples_call *samples;
+} library;
+
+static const library libraries[LIBRARIES] = {
+    {"proved", ruznavo_decode, ruznavo_encode, ruznavo_plan, ruznavo_samples},
+    {"plain C", plain_decode, plain_encode, plain_plan, plain_samples},
+    {"SSE2 C", sse2_decode, NULL, NULL, NULL},
+};
+
+typedef enum { DECODE, ENCODE, PLAN, SAMPLES } routine;
+
+typedef struct {
+    routine what;
+    size_t n, k, sweeps;
+    int leaf_only;
+} test_case;
+
+// What the calls read.
+static uint8_t mask[MAX_N], plan[2 * MAX_N], marks[MAX_N], payloads[FRAMES][MAX_N];
+static float samples[FRAMES][MAX_N], variance;
+static int16_t llrs[FRAMES][MAX_N];
+
+// What each library's calls write, and the answer of the last one.
+typedef struct {
+    uint64_t answer;
+    int32_t soft[MAX_N], work[RUZNAVO_MAX_WORK_WORDS];
+    uint8_t hard[MAX_N], payload[MAX_N], word[MAX_N], plan[2 * MAX_N];
+    uint32_t counts[KINDS];
+    int16_t llrs[MAX_N];
+} outputs;
+
+static outputs written[LIBRARIES];
+
+static void fail(const test_case *c, const char *what) {
+    fprintf(stderr, "bench: routine %d at (%zu,%zu), %zu sweeps: %s\n", c->what, c->n, c->k, c->sweeps, what);
+    exit(1);
+}
+
+static void make_plan(const test_case *c) {
+    uint32_t counts[KINDS];
+    if (plain_plan(mask, c->n, plan, 2 * c->n, counts) & 255) fail(c, "no plan");
+    if (!c->leaf_only) return;
+    memset(plan, 0, c->n);
+    memset(plan + c->n, 1, c->n);
+}
+
+// The same frames for each case of a code: random payloads at an Eb/N0 of 2 dB.
+static void prepare(const test_case *c) {
+    struct random r = random_case(1, 0);
+    uint8_t word[MAX_N];
+    make_mask(mask, c->n, c->k);
+    make_plan(c);
+    variance = (float)noise_variance(c->n, c->k, 2);
+    for (int f = 0; f < FRAMES; f++) {
+        for (size_t i = 0; i < c->k; i++) payloads[f][i] = random_bits(&r) >> 63;
+        if (plain_encode(mask, c->n, payloads[f], c->k, word, c->n)) fail(c, "no word");
+        transmit(&r, word, c->n, variance, samples[f]);
+        if (plain_samples(samples[f], c->n, marks, c->n, variance, llrs[f], c->n)) fail(c, "no LLRs");
+    }
+}
+
+static int has_routine(const test_case *c, int which) { return c->what == DECODE || libraries[which].encode != NULL; }
+
+static void call(const test_case *c, int which, int f) {
+    const library *lib = &libraries[which];
+    outputs *o = &written[which];
+    size_t n = c->n;
+    switch (c->what) {
+    case DECODE:
+        o->answer = lib->decode(mask, n, plan, 2 * n, c->sweeps, llrs[f], n, o->soft, n, o->hard, n, o->payload, c->k,
+                                o->work, RUZNAVO_MAX_WORK_WORDS);
+        break;
+    case ENCODE: o->answer = lib->encode(mask, n, payloads[f], c->k, o->word, n); break;
+    case PLAN: o->answer = lib->plan(mask, n, o->plan, 2 * n, o->counts); break;
+    case SAMPLES: o->answer = lib->samples(samples[f], n, marks, n, variance, o->llrs, n); break;
+    }
+}
+
+// All libraries must answer 0 and write the same, on buffers that held the same before.
+static void compare(const test_case *c) {
+    for (int f = 0; f < FRAMES; f++)
+        for (int which = 0; which < LIBRARIES; which++) {
+            if (!has_routine(c, which)) continue;
+            memset(&written[which], 85, sizeof written[which]);
+            call(c, which, f);
+            if (written[which].answer & 255) fail(c, "turned down");
+            if (memcmp(&written[which], &written[PROVED], sizeof written[which])) fail(c, "the libraries differ");
+        }
+}
+
+static double now(void) {
+    struct timespec t;
+    clock_gettime(CLOCK_MONOTONIC, &t);
+    return (double)t.tv_sec * 1e9 + (double)t.tv_nsec;
+}
+
+// Nanoseconds of one call, from several in a row where the frame is short.
+static double time_call(const test_case *c, int which, int f) {
+    int repeats = (int)(1 + 1024 / c->n);
+    double start = now();
+    for (int i = 0; i < repeats; i++) call(c, which, f);
+    return (now() - start) / repeats;
+}
+
+// For each library the mean over the frames of the least time of many rounds.
+static void measure(const test_case *c, double *mean) {
+    static double least[LIBRARIES][FRAMES];
+    double end = now() + 5e8;
+    for (int round = 0; round < 20 || now() < end; round++)
+        for (int f = 0; f < FRAMES; f++)
+            for (int which = 0; which < LIBRARIES; which++) {
+                if (!has_routine(c, which)) continue;
+                double t = time_call(c, which, f);
+                if (round == 0 || t < least[which][f]) least[which][f] = t;
+            }
+    for (int which = 0; which < LIBRARIES; which++) {
+        mean[which] = 0;
+        for (int f = 0; f < FRAMES; f++) mean[which] += least[which][f] / FRAMES;
+    }
+}
+
+// A profiler counts instructions inside this function, and lists its calls one by one.
+__attribute__((noinline)) void count_here(const test_case *c, int which) {
+    for (int f = 0; f < FRAMES; f++) call(c, which, f);
+}
+
+static int counting;
+static FILE *instructions;
+
+// The instructions of a frame, or 0 where they were not counted.
+static double next_count(void) {
+    double total = 0;
+    if (instructions && fscanf(instructions, "%lf", &total) != 1) total = 0;
+    return total / FRAMES;
+}
+
+static void print_numbers(const test_case *c, const double *values) {
+    for (int which = 0; which < LIBRARIES; which++)
+        if (has_routine(c, which) && values[which] > 0) printf(" %9.0f", values[which]);
+        else printf(" %9s", "-");
+}
+
+// The case's line of a table, after its name; the times of the three libraries.
+static void run_case(const test_case *c, double *mean) {
+    double counts[LIBRARIES] = {0};
+    prepare(c);
+    compare(c);
+    if (counting) {
+        for (int which = 0; which < LIBRARIES; which++)
+            if (has_routine(c, which)) count_here(c, which);
+        return;
+    }
+    for (int which = 0; which < LIBRARIES; which++)
+        if (has_routine(c, which)) counts[which] = next_count();
+    measure(c, mean);
+    print_numbers(c, mean);
+    printf(" |");
+    print_numbers(c, counts);
+}
+
+static void heading(const char *title, const char *columns) {
+    if (counting) return;
+    printf("\n%s\n%-26s", title, "");
+    printf(" %29s | %29s\n", "ns a frame", "instructions a frame");
+    printf("%-26s", columns);
+    for (int part = 0; part < 2; part++)
+        for (int which = 0; which < LIBRARIES; which++)
+            printf("%s %9s", part == 1 && which == 0 ? " |" : "", libraries[which].name);
+}
+
+static const size_t codes[][2] = {{1024, 512}, {1024, 128}, {1024, 896}, {256, 128}, {128, 64}};
+enum { CODES = sizeof codes / sizeof *codes };
+
+static void decode_table(void) {
+    heading("Decoder", "code       plan     sweeps");
+    if (!counting) puts("   proved/plain  proved/SSE2");
+    for (int i = 0; i < 4 * CODES; i++) {
+        test_case c = {DECODE, codes[i / 4][0], codes[i / 4][1], i % 2 ? 4 : 1, i / 2 % 2};
+        double mean[LIBRARIES];
+        if (!counting) printf("(%4zu,%3zu) %-10s %4zu", c.n, c.k, c.leaf_only ? "leaf-only" : "planner's", c.sweeps);
+        run_case(&c, mean);
+        if (!counting)
+            printf("   %12.2f %12.2f\n", mean[PROVED] / mean[PLAIN], mean[PROVED] / mean[SSE2]), fflush(stdout);
+    }
+}
+
+static void other_table(void) {
+    static const char *const names[] = {"", "encoder", "planner", "front end"};
+    heading("Encoder, planner and front end", "routine    code");
+    if (!counting) puts("   proved/plain");
+    for (int i = 0; i < 3 * CODES; i++) {
+        test_case c = {(routine)(ENCODE + i / CODES), codes[i % CODES][0], codes[i % CODES][1], 0, 0};
+        double mean[LIBRARIES];
+        if (!counting) printf("%-10s (%4zu,%3zu)%5s", names[c.what], c.n, c.k, "");
+        run_case(&c, mean);
+        if (!counting) printf("   %12.2f\n", mean[PROVED] / mean[PLAIN]), fflush(stdout);
+    }
+}
+
+static void growth_table(void) {
+    heading("Decoder by N, rate 1/2, 1 sweep, planner's plan", "N");
+    if (!counting) puts("   ns / (N log2 N): proved, plain, SSE2");
+    for (int stage = 1; stage <= MAX_STAGE; stage++) {
+        size_t n = (size_t)1 << stage;
+        test_case c = {DECODE, n, n / 2, 1, 0};
+        double mean[LIBRARIES], steps = (double)n * stage;
+        if (!counting) printf("%-26zu", n);
+        run_case(&c, mean);
+        if (!counting)
+            printf("   %6.2f %6.2f %6.2f\n", mean[PROVED] / steps, mean[PLAIN] / steps, mean[SSE2] / steps),
+                fflush(stdout);
+    }
+}
+
+int main(int count, char **words) {
+    counting = count == 2 && !strcmp(words[1], "count");
+    if (count == 2 && !counting && !(instructions = fopen(words[1], "r"))) return perror(words[1]), 2;
+    for (int which = 0; which < LIBRARIES; which++)
+        if (!refuses_rightly(libraries[which].decode))
+            return fprintf(stderr, "bench: %s misses a test\n", libraries[which].name), 1;
+    decode_table();
+    other_table();
+    growth_table();
+    return 0;
+}

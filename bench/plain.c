@@ -1,0 +1,301 @@
+// Encoder, planner, front end and decoder in plain C, as one would write them without intrinsics.
+#include "baseline.h"
+
+#include <math.h>
+#include <string.h>
+
+#define CERTAIN INT32_MAX
+
+enum { RATE_0, RATE_1, REP, SPC, TYPE_I, TYPE_III, KINDS };
+enum { NO_KIND = -1, UNCUT = KINDS };
+
+// The exponent of an allowed length, else 0.
+static int exponent_of(size_t n) {
+    for (int t = 1; t <= 10; t++)
+        if (n == (size_t)1 << t) return t;
+    return 0;
+}
+
+static int above_one(const uint8_t *bytes, size_t n) {
+    uint8_t all = 0;
+    for (size_t i = 0; i < n; i++) all |= bytes[i];
+    return all > 1;
+}
+
+static size_t count_ones(const uint8_t *bytes, size_t n) {
+    size_t ones = 0;
+    for (size_t i = 0; i < n; i++) ones += bytes[i];
+    return ones;
+}
+
+static void transform(uint8_t *bits, size_t n) {
+    for (size_t h = 1; h < n; h *= 2)
+        for (size_t i = 0; i < n; i += 2 * h)
+            for (size_t j = i; j < i + h; j++) bits[j] ^= bits[j + h];
+}
+
+static int kind_of(const uint8_t *mask, size_t size) {
+    size_t frozen = count_ones(mask, size);
+    if (frozen == size) return RATE_0;
+    if (frozen == 0) return RATE_1;
+    if (frozen == size - 1 && !mask[size - 1]) return REP;
+    if (frozen == 1 && mask[0]) return SPC;
+    if (size < 4) return NO_KIND;
+    if (frozen == size - 2 && !mask[size - 1] && !mask[size - 2]) return TYPE_I;
+    if (frozen == 2 && mask[0] && mask[1]) return TYPE_III;
+    return NO_KIND;
+}
+
+// The kind of a pattern that is of some kind.
+static int known_kind(const uint8_t *mask, size_t size) {
+    if (mask[size - 1]) return RATE_0;
+    if (!mask[0]) return RATE_1;
+    if (mask[size - 2]) return REP;
+    if (!mask[1]) return SPC;
+    return mask[size - 3] ? TYPE_I : TYPE_III;
+}
+
+// The cycles of a sweep at an uncut node whose children are of these kinds, or UNCUT.
+static uint32_t edge_cycles(int left, int right) { return 2 + (left > RATE_1 ? 2 : 0) + (right > RATE_1 ? 2 : 0); }
+
+// Encoder.
+uint64_t plain_encode(const uint8_t *mask, size_t n, const uint8_t *payload, size_t payload_length, uint8_t *word,
+                      size_t word_length) {
+    if (!exponent_of(n)) return 1;
+    if (above_one(mask, n)) return 2;
+    if (payload_length != n - count_ones(mask, n)) return 3;
+    if (above_one(payload, payload_length)) return 10;
+    if (word_length < n) return 11;
+    size_t k = 0;
+    for (size_t i = 0; i < n; i++) word[i] = mask[i] ? 0 : payload[k++];
+    transform(word, n);
+    return 0;
+}
+
+// Front end: y / v rounded once, doubled, to the nearest whole number, halves away from zero, clamped.
+static int16_t llr_of(float y, float variance) {
+    double twice = 2 * (double)(y / variance);
+    if (twice > 32767) twice = 32767;
+    if (twice < -32767) twice = -32767;
+    return (int16_t)(twice + copysign(0.5, twice));
+}
+
+uint64_t plain_samples(const float *samples, size_t n, const uint8_t *marks, size_t marks_length, float variance,
+                       int16_t *llrs, size_t llrs_length) {
+    if (!exponent_of(n)) return 1;
+    if (marks_length != n) return 3;
+    if (!isfinite(variance) || !(variance > 0)) return 8;
+    for (size_t i = 0; i < n; i++)
+        if (marks[i] > 2 || (marks[i] == 0 && !isfinite(samples[i]))) return 9;
+    if (llrs_length < n) return 11;
+    for (size_t i = 0; i < n; i++) llrs[i] = marks[i] == 0 ? llr_of(samples[i], variance) : marks[i] == 1 ? 0 : 32767;
+    return 0;
+}
+
+// Planner: cuts each node of a kind that has no such node above it; the kind, or UNCUT.
+static int plan_node(const uint8_t *mask, size_t size, uint8_t *plan, size_t node, uint32_t *counts, uint32_t *cycles) {
+    int kind = kind_of(mask, size);
+    if (kind != NO_KIND) {
+        plan[node] = 1;
+        counts[kind]++;
+        *cycles += kind > RATE_1 ? 2 : 0;
+        return kind;
+    }
+    size_t half = size / 2;
+    int left = plan_node(mask, half, plan, 2 * node, counts, cycles);
+    int right = plan_node(mask + half, half, plan, 2 * node + 1, counts, cycles);
+    *cycles += edge_cycles(left, right);
+    return UNCUT;
+}
+
+uint64_t plain_plan(const uint8_t *mask, size_t n, uint8_t *plan, size_t plan_length, uint32_t *counts) {
+    if (!exponent_of(n)) return 1;
+    if (above_one(mask, n)) return 2;
+    if (plan_length < 2 * n) return 11;
+    uint32_t cycles = 0;
+    memset(plan, 0, 2 * n);
+    memset(counts, 0, KINDS * sizeof *counts);
+    plan_node(mask, n, plan, 1, counts, &cycles);
+    return 256 * (uint64_t)cycles;
+}
+
+// The workspace of a decode: a row of N messages for each depth, the root's first, then the incoming lists of the nodes
+// on the way from the root to the node visited, each behind its parent's.
+typedef struct {
+    const uint8_t *mask, *plan;
+    size_t n;
+} decoder;
+
+static int32_t box(int32_t a, int32_t b) {
+    int32_t x = a < 0 ? -a : a, y = b < 0 ? -b : b, least = x < y ? x : y;
+    return (a < 0) != (b < 0) ? -least : least;
+}
+
+static int32_t plus(int32_t message, int32_t value) { return message == CERTAIN ? CERTAIN : message + value; }
+
+static void rep_message(const int32_t *restrict list, int32_t *restrict message, size_t size, size_t stride) {
+    for (size_t first = 0; first < stride; first++) {
+        int32_t sum = 0;
+        for (size_t k = first; k < size; k += stride) sum += list[k];
+        for (size_t k = first; k < size; k += stride) message[k] = sum - list[k];
+    }
+}
+
+static void spc_message(const int32_t *restrict list, int32_t *restrict message, size_t size, size_t stride) {
+    for (size_t first = 0; first < stride; first++) {
+        int32_t least = CERTAIN, next = CERTAIN, signs = 0;
+        for (size_t k = first; k < size; k += stride) {
+            int32_t x = list[k] < 0 ? -list[k] : list[k], larger = x < least ? least : x;
+            signs ^= list[k];
+            next = larger < next ? larger : next;
+            least = x < least ? x : least;
+        }
+        for (size_t k = first; k < size; k += stride) {
+            int32_t x = list[k] < 0 ? -list[k] : list[k], other = x == least ? next : least;
+            message[k] = (signs ^ list[k]) < 0 ? -other : other;
+        }
+    }
+}
+
+static void fill(int32_t *words, size_t n, int32_t value) {
+    for (size_t k = 0; k < n; k++) words[k] = value;
+}
+
+static void cut_message(const uint8_t *mask, const int32_t *list, int32_t *message, size_t size) {
+    switch (known_kind(mask, size)) {
+    case RATE_0: fill(message, size, CERTAIN); break;
+    case RATE_1: fill(message, size, 0); break;
+    case REP: rep_message(list, message, size, 1); break;
+    case SPC: spc_message(list, message, size, 1); break;
+    case TYPE_I: rep_message(list, message, size, 2); break;
+    case TYPE_III: spc_message(list, message, size, 2); break;
+    }
+}
+
+// The list of the left child: box(L[k], L[k + h] + r[k]).
+static void left_list(const int32_t *restrict list, const int32_t *restrict right, int32_t *restrict out, size_t h) {
+    for (size_t k = 0; k < h; k++) out[k] = box(list[k], plus(right[k], list[k + h]));
+}
+
+// The list of the right child: box(L[k], l[k]) + L[k + h].
+static void right_list(const int32_t *restrict list, const int32_t *restrict left, int32_t *restrict out, size_t h) {
+    for (size_t k = 0; k < h; k++) out[k] = box(list[k], left[k]) + list[k + h];
+}
+
+// The node's message from its children's, which stand one behind the other.
+static void node_message(const int32_t *restrict list, const int32_t *restrict children, int32_t *restrict message,
+                         size_t h) {
+    for (size_t k = 0; k < h; k++) {
+        int32_t left = children[k], right = children[k + h];
+        message[k] = box(left, plus(right, list[k + h]));
+        message[k + h] = plus(right, box(list[k], left));
+    }
+}
+
+static int needs_list(const decoder *d, size_t node, size_t start, size_t size) {
+    return !d->plan[node] || known_kind(d->mask + start, size) > RATE_1;
+}
+
+static void visit(const decoder *d, size_t node, int32_t *list, int32_t *message, size_t start, size_t size) {
+    if (d->plan[node]) {
+        cut_message(d->mask + start, list, message, size);
+        return;
+    }
+    size_t h = size / 2;
+    int32_t *child_list = list + size, *left = message + d->n, *right = left + h;
+    if (needs_list(d, 2 * node, start, h)) left_list(list, right, child_list, h);
+    visit(d, 2 * node, child_list, left, start, h);
+    if (needs_list(d, 2 * node + 1, start + h, h)) right_list(list, left, child_list, h);
+    visit(d, 2 * node + 1, child_list, right, start + h, h);
+    node_message(list, left, message, h);
+}
+
+typedef struct {
+    size_t cuts;
+    uint32_t cycles;
+    int fault;
+} plan_facts;
+
+// The cuts of a node's part of a plan, with no cut above, and its cycles; the node's kind, or UNCUT.
+static int check_node(const uint8_t *mask, size_t size, const uint8_t *plan, size_t node, plan_facts *facts) {
+    if (plan[node]) {
+        int kind = kind_of(mask, size);
+        facts->cuts++;
+        facts->cycles += kind > RATE_1 ? 2 : 0;
+        facts->fault |= kind == NO_KIND;
+        return kind;
+    }
+    if (size == 1) {
+        facts->fault = 1;
+        return UNCUT;
+    }
+    size_t half = size / 2;
+    int left = check_node(mask, half, plan, 2 * node, facts);
+    int right = check_node(mask + half, half, plan, 2 * node + 1, facts);
+    facts->cycles += edge_cycles(left, right);
+    return UNCUT;
+}
+
+// Tests 5 and 6; the cycles of one sweep.
+static uint64_t test_plan(const uint8_t *mask, size_t n, const uint8_t *plan, size_t plan_length, uint32_t *cycles) {
+    if (plan_length != 2 * n || above_one(plan, 2 * n) || plan[0]) return 5;
+    plan_facts facts = {0, 0, 0};
+    check_node(mask, n, plan, 1, &facts);
+    // A cut below a cut is one that the walk does not meet.
+    if (facts.fault || facts.cuts != count_ones(plan, 2 * n)) return 6;
+    *cycles = facts.cycles;
+    return 0;
+}
+
+static int has_lowest(const int16_t *llrs, size_t n) {
+    int found = 0;
+    for (size_t i = 0; i < n; i++) found |= llrs[i] == INT16_MIN;
+    return found;
+}
+
+static void sweep_all(const uint8_t *mask, size_t n, int t, const uint8_t *plan, const int16_t *llrs, size_t sweeps,
+                      int32_t *work) {
+    decoder d = {mask, plan, n};
+    int32_t *lists = work + n * ((size_t)t + 1), *leaves = work + n * (size_t)t;
+    memset(work, 0, n * (size_t)t * sizeof *work);
+    for (size_t i = 0; i < n; i++) leaves[i] = mask[i] ? CERTAIN : 0;
+    for (size_t i = 0; i < n; i++) lists[i] = llrs[i];
+    for (size_t s = 0; s < sweeps; s++) visit(&d, 1, lists, work, 0, n);
+}
+
+// Payload from the hard word; the frozen check.
+static int read_off(const uint8_t *mask, size_t n, const uint8_t *hard, uint8_t *payload) {
+    uint8_t u[1024], wrong = 0;
+    memcpy(u, hard, n);
+    transform(u, n);
+    size_t k = 0;
+    for (size_t i = 0; i < n; i++)
+        if (mask[i]) wrong |= u[i];
+        else payload[k++] = u[i];
+    return !wrong;
+}
+
+uint64_t plain_decode(const uint8_t *mask, size_t n, const uint8_t *plan, size_t plan_length, size_t sweeps,
+                      const int16_t *llrs, size_t llrs_length, int32_t *soft, size_t soft_length, uint8_t *hard,
+                      size_t hard_length, uint8_t *payload, size_t payload_length, int32_t *work, size_t work_length) {
+    int t = exponent_of(n);
+    if (!t) return 1;
+    if (above_one(mask, n)) return 2;
+    if (llrs_length != n) return 3;
+    if (sweeps < 1 || sweeps > 16) return 4;
+    uint32_t cycles = 0;
+    uint64_t number = test_plan(mask, n, plan, plan_length, &cycles);
+    if (number) return number;
+    if (has_lowest(llrs, n)) return 7;
+    if (soft_length < n || hard_length < n || payload_length < n - count_ones(mask, n)) return 11;
+    size_t words = n * ((size_t)t + 3);
+    if (work_length < words) return 12;
+    sweep_all(mask, n, t, plan, llrs, sweeps, work);
+    for (size_t i = 0; i < n; i++) {
+        soft[i] = work[i];
+        hard[i] = plus(work[i], llrs[i]) < 0;
+    }
+    uint64_t check = (uint64_t)read_off(mask, n, hard, payload);
+    memset(work, 0, words * sizeof *work);
+    return 256 * (uint64_t)cycles * sweeps + (check << 40);
+}

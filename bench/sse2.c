@@ -1,0 +1,389 @@
+// The decoder with SSE2 intrinsics. The plan is turned once into a list of steps, which each sweep goes through.
+#include "baseline.h"
+
+#include <emmintrin.h>
+#include <string.h>
+
+#define CERTAIN INT32_MAX
+#define INLINE static inline __attribute__((always_inline))
+
+typedef __m128i vector;
+
+enum { RATE_0, RATE_1, REP, SPC, TYPE_I, TYPE_III, UNCUT, NO_KIND };
+
+INLINE vector load(const int32_t *p) { return _mm_loadu_si128((const vector *)p); }
+INLINE void store(int32_t *p, vector v) { _mm_storeu_si128((vector *)p, v); }
+
+INLINE vector choose(vector where, vector a, vector b) {
+    return _mm_or_si128(_mm_and_si128(where, a), _mm_andnot_si128(where, b));
+}
+
+INLINE vector least_of(vector a, vector b) { return choose(_mm_cmplt_epi32(a, b), a, b); }
+INLINE vector largest_of(vector a, vector b) { return choose(_mm_cmpgt_epi32(a, b), a, b); }
+
+INLINE vector size_of(vector a) {
+    vector sign = _mm_srai_epi32(a, 31);
+    return _mm_sub_epi32(_mm_xor_si128(a, sign), sign);
+}
+
+INLINE vector box(vector a, vector b) {
+    vector low = least_of(a, b), high = largest_of(a, b);
+    return largest_of(low, _mm_sub_epi32(_mm_setzero_si128(), high));
+}
+
+INLINE vector plus(vector message, vector value) {
+    vector certain = _mm_set1_epi32(CERTAIN);
+    return _mm_add_epi32(message, _mm_andnot_si128(_mm_cmpeq_epi32(message, certain), value));
+}
+
+// The list of the left child: box(L[k], L[k + h] + r[k]); in the first sweep r is zero.
+INLINE void left_list(const int32_t *list, const int32_t *right, int32_t *out, size_t h) {
+    for (size_t k = 0; k < h; k += 4) store(out + k, box(load(list + k), plus(load(right + k), load(list + k + h))));
+}
+
+INLINE void first_left_list(const int32_t *list, int32_t *out, size_t h) {
+    for (size_t k = 0; k < h; k += 4) store(out + k, box(load(list + k), load(list + k + h)));
+}
+
+// The list of the right child: box(L[k], l[k]) + L[k + h]; after a rate-0 left child, L[k] + L[k + h].
+INLINE void right_list(const int32_t *list, const int32_t *left, int32_t *out, size_t h) {
+    for (size_t k = 0; k < h; k += 4)
+        store(out + k, _mm_add_epi32(box(load(list + k), load(left + k)), load(list + k + h)));
+}
+
+INLINE void right_list_rate_0(const int32_t *list, int32_t *out, size_t h) {
+    for (size_t k = 0; k < h; k += 4) store(out + k, _mm_add_epi32(load(list + k), load(list + k + h)));
+}
+
+// The node's message: box(l[k], L[k + h] + r[k]) and r[k] + box(L[k], l[k]).
+INLINE void node_message(const int32_t *list, const int32_t *children, int32_t *message, size_t h) {
+    for (size_t k = 0; k < h; k += 4) {
+        vector first = load(list + k), second = load(list + k + h);
+        vector left = load(children + k), right = load(children + k + h);
+        store(message + k, box(left, plus(right, second)));
+        store(message + k + h, plus(right, box(first, left)));
+    }
+}
+
+// The same after a rate-0 left child, and with a rate-1 right child.
+INLINE void node_message_rate_0(const int32_t *list, const int32_t *children, int32_t *message, size_t h) {
+    for (size_t k = 0; k < h; k += 4) {
+        vector right = load(children + k + h);
+        store(message + k, plus(right, load(list + k + h)));
+        store(message + k + h, plus(right, load(list + k)));
+    }
+}
+
+INLINE void node_message_rate_1(const int32_t *list, const int32_t *children, int32_t *message, size_t h) {
+    for (size_t k = 0; k < h; k += 4) {
+        vector left = load(children + k);
+        store(message + k, box(left, load(list + k + h)));
+        store(message + k + h, box(load(list + k), left));
+    }
+}
+
+// The other pair of a vector's words, and the other word of each pair.
+INLINE vector other_pair(vector a) { return _mm_shuffle_epi32(a, 0x4E); }
+INLINE vector other_word(vector a) { return _mm_shuffle_epi32(a, 0xB1); }
+
+// REP, of 4 words or more; with stride 2, over even and over odd places.
+static void rep_message(const int32_t *list, int32_t *message, size_t size, int stride) {
+    vector sum = load(list);
+    for (size_t k = 4; k < size; k += 4) sum = _mm_add_epi32(sum, load(list + k));
+    sum = _mm_add_epi32(sum, other_pair(sum));
+    if (stride == 1) sum = _mm_add_epi32(sum, other_word(sum));
+    for (size_t k = 0; k < size; k += 4) store(message + k, _mm_sub_epi32(sum, load(list + k)));
+}
+
+// The least and the second least size of two groups of places, and the product of their signs.
+typedef struct {
+    vector least, next, signs;
+} gathered;
+
+INLINE gathered join(gathered a, gathered b) {
+    gathered both;
+    both.least = least_of(a.least, b.least);
+    both.next = least_of(least_of(a.next, b.next), largest_of(a.least, b.least));
+    both.signs = _mm_xor_si128(a.signs, b.signs);
+    return both;
+}
+
+// SPC, of 4 words or more; with stride 2, over even and over odd places.
+static void spc_message(const int32_t *list, int32_t *message, size_t size, int stride) {
+    vector certain = _mm_set1_epi32(CERTAIN);
+    gathered g = {size_of(load(list)), certain, load(list)};
+    for (size_t k = 4; k < size; k += 4) {
+        vector x = load(list + k), s = size_of(x);
+        g.next = least_of(g.next, largest_of(g.least, s));
+        g.least = least_of(g.least, s);
+        g.signs = _mm_xor_si128(g.signs, x);
+    }
+    g = join(g, (gathered){other_pair(g.least), other_pair(g.next), other_pair(g.signs)});
+    if (stride == 1) g = join(g, (gathered){other_word(g.least), other_word(g.next), other_word(g.signs)});
+    for (size_t k = 0; k < size; k += 4) {
+        vector x = load(list + k), value = choose(_mm_cmpeq_epi32(size_of(x), g.least), g.next, g.least);
+        vector sign = _mm_srai_epi32(_mm_xor_si128(x, g.signs), 31);
+        store(message + k, _mm_sub_epi32(_mm_xor_si128(value, sign), sign));
+    }
+}
+
+static void fill(int32_t *words, size_t n, int32_t value) {
+    for (size_t k = 0; k < n; k++) words[k] = value;
+}
+
+enum {
+    LEFT,
+    RIGHT,
+    RIGHT_RATE_0,
+    NODE,
+    NODE_RATE_0,
+    NODE_RATE_1,
+    CUT_RATE_0,
+    CUT_REP,
+    CUT_SPC,
+    CUT_TYPE_I,
+    CUT_TYPE_III,
+    CUT_PAIR
+};
+
+// A step of a sweep. `size` is that of the cut node, else half that of the node; `list` is where the node's incoming
+// list stands among the lists, `message` where the cut node's message, else the left child's message stands among the
+// messages.
+typedef struct {
+    uint8_t what;
+    uint16_t size, list, message;
+} step;
+
+// The messages of each depth are a row of N words, the root's first; a child's list stands behind its parent's.
+typedef struct {
+    const uint8_t *mask, *plan;
+    const uint16_t *frozen; // frozen positions before each position
+    size_t n;
+    step *steps;
+    size_t step_count;
+    step *zeros; // messages of rate-1 cut nodes, which are stored once
+    size_t zero_count;
+    size_t cuts;
+    uint32_t cycles;
+    int fault;
+} builder;
+
+// The kind of a cut node, or UNCUT.
+static int kind_of(const builder *b, size_t node, size_t start, size_t size) {
+    if (!b->plan[node]) return UNCUT;
+    size_t frozen = b->frozen[start + size] - b->frozen[start];
+    const uint8_t *mask = b->mask + start;
+    if (frozen == size) return RATE_0;
+    if (frozen == 0) return RATE_1;
+    if (frozen == size - 1 && !mask[size - 1]) return REP;
+    if (frozen == 1 && mask[0]) return SPC;
+    if (size < 4) return NO_KIND;
+    if (frozen == size - 2 && !mask[size - 1] && !mask[size - 2]) return TYPE_I;
+    if (frozen == 2 && mask[0] && mask[1]) return TYPE_III;
+    return NO_KIND;
+}
+
+static void add_step(builder *b, int what, size_t size, size_t list, size_t message) {
+    b->steps[b->step_count++] = (step){(uint8_t)what, (uint16_t)size, (uint16_t)list, (uint16_t)message};
+}
+
+static void build_cut(builder *b, int kind, size_t size, size_t list, size_t message) {
+    b->cuts++;
+    if (size == 1) return; // a leaf's message stands for good
+    if (kind == NO_KIND) b->fault = 1;
+    else if (kind == RATE_1) b->zeros[b->zero_count++] = (step){0, (uint16_t)size, 0, (uint16_t)message};
+    else if (kind == RATE_0) add_step(b, CUT_RATE_0, size, list, message);
+    else add_step(b, size == 2 ? CUT_PAIR : CUT_REP + kind - REP, size, list, message);
+    if (kind != RATE_0 && kind != RATE_1) b->cycles += 2;
+}
+
+// The steps of a visit of a node of this kind.
+static void build(builder *b, size_t node, int kind, size_t start, size_t size, size_t list, size_t message) {
+    if (kind != UNCUT) {
+        build_cut(b, kind, size, list, message);
+        return;
+    }
+    if (size == 1) {
+        b->fault = 1;
+        return;
+    }
+    size_t h = size / 2, child_list = list + size, child = message + b->n;
+    int left = kind_of(b, 2 * node, start, h), right = kind_of(b, 2 * node + 1, start + h, h);
+    if (left > RATE_1) add_step(b, LEFT, h, list, child);
+    build(b, 2 * node, left, start, h, child_list, child);
+    if (right > RATE_1) add_step(b, left == RATE_0 ? RIGHT_RATE_0 : RIGHT, h, list, child);
+    build(b, 2 * node + 1, right, start + h, h, child_list, child + h);
+    add_step(b, left == RATE_0 ? NODE_RATE_0 : right == RATE_1 ? NODE_RATE_1 : NODE, h, list, child);
+    b->cycles += 2 + (left > RATE_1 ? 2 : 0) + (right > RATE_1 ? 2 : 0);
+}
+
+INLINE int32_t small_box(int32_t a, int32_t b) {
+    int32_t low = a < b ? a : b, high = a < b ? b : a;
+    return low < -high ? -high : low;
+}
+
+INLINE int32_t small_plus(int32_t message, int32_t value) { return message == CERTAIN ? CERTAIN : message + value; }
+
+// A step of a node of 2 or 4 positions.
+static void small_step(int what, const int32_t *list, int32_t *children, int32_t *out, int32_t *message, size_t h) {
+    for (size_t k = 0; k < h; k++) {
+        int32_t first = list[k], second = list[k + h], left = children[k], right = children[k + h];
+        if (what == LEFT) out[k] = small_box(first, small_plus(right, second));
+        else if (what == RIGHT || what == RIGHT_RATE_0) out[k] = small_box(first, left) + second;
+        else {
+            message[k] = small_box(left, small_plus(right, second));
+            message[k + h] = small_plus(right, small_box(first, left));
+        }
+    }
+}
+
+// A routine on h words, the least number of which is 4.
+#define COMBINE(routine, h, ...) ((h) == 4 ? routine(__VA_ARGS__, 4) : routine(__VA_ARGS__, h))
+
+static void large_step(int what, const int32_t *list, int32_t *children, int32_t *out, int32_t *message, size_t h,
+                       int first) {
+    switch (what) {
+    case LEFT:
+        if (first) COMBINE(first_left_list, h, list, out);
+        else COMBINE(left_list, h, list, children + h, out);
+        break;
+    case RIGHT: COMBINE(right_list, h, list, children, out); break;
+    case RIGHT_RATE_0: COMBINE(right_list_rate_0, h, list, out); break;
+    case NODE: COMBINE(node_message, h, list, children, message); break;
+    case NODE_RATE_0: COMBINE(node_message_rate_0, h, list, children, message); break;
+    case NODE_RATE_1: COMBINE(node_message_rate_1, h, list, children, message); break;
+    }
+}
+
+static void cut_step(int what, const int32_t *list, int32_t *message, size_t size) {
+    switch (what) {
+    case CUT_RATE_0: fill(message, size, CERTAIN); break;
+    case CUT_REP: rep_message(list, message, size, 1); break;
+    case CUT_SPC: spc_message(list, message, size, 1); break;
+    case CUT_TYPE_I: rep_message(list, message, size, 2); break;
+    case CUT_TYPE_III: spc_message(list, message, size, 2); break;
+    case CUT_PAIR:
+        message[0] = list[1];
+        message[1] = list[0];
+        break;
+    }
+}
+
+static void sweep(const step *steps, size_t count, size_t n, int32_t *messages, int32_t *lists, int first) {
+    for (const step *s = steps; s < steps + count; s++) {
+        size_t size = s->size;
+        int32_t *list = lists + s->list, *message = messages + s->message;
+        if (s->what >= CUT_RATE_0) cut_step(s->what, list, message, size);
+        else if (size >= 4) large_step(s->what, list, message, list + 2 * size, message - n, size, first);
+        else small_step(s->what, list, message, list + 2 * size, message - n, size);
+    }
+}
+
+static int above_one(const uint8_t *bytes, size_t n) {
+    uint8_t all = 0;
+    for (size_t i = 0; i < n; i++) all |= bytes[i];
+    return all > 1;
+}
+
+static size_t count_ones(const uint8_t *bytes, size_t n) {
+    vector sums = _mm_setzero_si128();
+    size_t i = 0;
+    for (; i + 16 <= n; i += 16)
+        sums = _mm_add_epi64(sums, _mm_sad_epu8(_mm_loadu_si128((const vector *)(bytes + i)), _mm_setzero_si128()));
+    size_t ones = (size_t)_mm_cvtsi128_si64(sums) + (size_t)_mm_cvtsi128_si64(_mm_srli_si128(sums, 8));
+    for (; i < n; i++) ones += bytes[i];
+    return ones;
+}
+
+static int has_lowest(const int16_t *llrs, size_t n) {
+    int16_t found = 0;
+    for (size_t i = 0; i < n; i++) found |= llrs[i] == INT16_MIN ? -1 : 0;
+    return found;
+}
+
+// The transform of bits that are followed by zeros up to 16.
+static void transform(uint8_t *bits, size_t n) {
+    for (size_t i = 0; i < n; i += 16) {
+        vector x = _mm_loadu_si128((const vector *)(bits + i));
+        x = _mm_xor_si128(x, _mm_srli_epi16(x, 8));
+        x = _mm_xor_si128(x, _mm_srli_epi32(x, 16));
+        x = _mm_xor_si128(x, _mm_srli_epi64(x, 32));
+        x = _mm_xor_si128(x, _mm_srli_si128(x, 8));
+        _mm_storeu_si128((vector *)(bits + i), x);
+    }
+    for (size_t h = 16; h < n; h *= 2)
+        for (size_t i = 0; i < n; i += 2 * h)
+            for (size_t j = i; j < i + h; j += 16) {
+                vector a = _mm_loadu_si128((const vector *)(bits + j)),
+                       c = _mm_loadu_si128((const vector *)(bits + j + h));
+                _mm_storeu_si128((vector *)(bits + j), _mm_xor_si128(a, c));
+            }
+}
+
+// Soft values and hard bits from the root's message and list.
+static void decide(const int32_t *restrict message, const int32_t *restrict list, int32_t *restrict soft,
+                   uint8_t *restrict hard, size_t n) {
+    memcpy(soft, message, n * sizeof *soft);
+    for (size_t i = 0; i < n; i++) {
+        uint32_t total = (uint32_t)message[i] + (uint32_t)list[i];
+        hard[i] = (uint8_t)(total >> 31 & (message[i] != CERTAIN));
+    }
+}
+
+// Payload from the hard word; the frozen check.
+static int read_off(const uint8_t *mask, size_t n, size_t unfrozen, const uint8_t *hard, uint8_t *payload) {
+    uint8_t u[1024] = {0}, found[1024 + 1], wrong = 0;
+    memcpy(u, hard, n);
+    transform(u, n);
+    for (size_t i = 0; i < n; i++) wrong |= u[i] & mask[i];
+    size_t k = 0;
+    for (size_t i = 0; i < n; i++) {
+        found[k] = u[i];
+        k += 1 - mask[i];
+    }
+    memcpy(payload, found, unfrozen);
+    return !wrong;
+}
+
+static void sweep_all(const builder *b, size_t t, const int16_t *llrs, size_t sweeps, int32_t *work) {
+    size_t n = b->n;
+    int32_t *lists = work + n * (t + 1), *leaves = work + n * t;
+    for (size_t i = 0; i < n; i++) lists[i] = llrs[i];
+    for (size_t i = 0; i < n; i++) leaves[i] = b->mask[i] ? CERTAIN : 0;
+    fill(leaves - n, n, 0); // read by a small step before it is written
+    for (size_t i = 0; i < b->zero_count; i++) fill(work + b->zeros[i].message, b->zeros[i].size, 0);
+    sweep(b->steps, b->step_count, n, work, lists, 1);
+    for (size_t s = 1; s < sweeps; s++) sweep(b->steps, b->step_count, n, work, lists, 0);
+}
+
+static void count_frozen(const uint8_t *mask, size_t n, uint16_t *frozen) {
+    uint16_t count = 0;
+    frozen[0] = 0;
+    for (size_t i = 0; i < n; i++) frozen[i + 1] = count = (uint16_t)(count + mask[i]);
+}
+
+uint64_t sse2_decode(const uint8_t *mask, size_t n, const uint8_t *plan, size_t plan_length, size_t sweeps,
+                     const int16_t *llrs, size_t llrs_length, int32_t *soft, size_t soft_length, uint8_t *hard,
+                     size_t hard_length, uint8_t *payload, size_t payload_length, int32_t *work, size_t work_length) {
+    if (n < 2 || n > 1024 || (n & (n - 1))) return 1;
+    if (above_one(mask, n)) return 2;
+    if (llrs_length != n) return 3;
+    if (sweeps < 1 || sweeps > 16) return 4;
+    if (plan_length != 2 * n || above_one(plan, 2 * n) || plan[0]) return 5;
+    uint16_t frozen[1024 + 1];
+    step steps[4 * 1024], zeros[1024];
+    count_frozen(mask, n, frozen);
+    builder b = {mask, plan, frozen, n, steps, 0, zeros, 0, 0, 0, 0};
+    build(&b, 1, kind_of(&b, 1, 0, n), 0, n, 0, 0);
+    // A cut below a cut is one that the walk does not meet.
+    if (b.fault || b.cuts != count_ones(plan, 2 * n)) return 6;
+    if (has_lowest(llrs, n)) return 7;
+    size_t t = (size_t)__builtin_ctzl(n), words = n * (t + 3), unfrozen = n - frozen[n];
+    if (soft_length < n || hard_length < n || payload_length < unfrozen) return 11;
+    if (work_length < words) return 12;
+    sweep_all(&b, t, llrs, sweeps, work);
+    decide(work, work + n * (t + 1), soft, hard, n);
+    uint64_t check = (uint64_t)read_off(mask, n, unfrozen, hard, payload);
+    memset(work, 0, words * sizeof *work);
+    return 256 * (uint64_t)b.cycles * sweeps + (check << 40);
+}
