@@ -25,6 +25,10 @@ pub fn set_short(s: &mut [i16], i: usize, z: i16) {
     }
 }
 
+pub fn short_at(s: &[i16], i: usize) -> i16 {
+    if i < s.len() { s[i] } else { 0 }
+}
+
 pub fn value(s: &[u64], i: usize) -> u64 {
     if i < s.len() { s[i] } else { 0 }
 }

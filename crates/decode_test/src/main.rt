@@ -1,11 +1,13 @@
 // Compares the decoder, the planner and the check of a plan with a SCAN of its own, walked to the last leaf, over drawn cases,
 // tries the refusals of these calls, and decodes encoded words.
 // Each line of the output has a group of cases, how many came out right, and how many there are. A case that does not come out
-// right is printed with its numbers, which determine it: with them, `right(group, stage, index)` runs it alone.
+// right is printed with the numbers that determine it: `right(group, stage, index)` runs it alone, and a case of the numbers after
+// these, handed to the function that `right` calls for the group, does so too.
 mod accepted;
 mod buffers;
 mod calls;
 mod cases;
+mod frames;
 mod nodes;
 mod numbers;
 mod reference;
@@ -19,25 +21,33 @@ use numbers::seed_of;
 ghost use Prim.Native.Nat.{_*_, _≤_};
 
 // The groups.
-const EVERY_MASK: usize = 0;
+const FRAMES: usize = 0;
 
-const DRAWN: usize = 1;
+const EVERY_MASK: usize = 1;
 
-const KINDS: usize = 2;
+const DRAWN: usize = 2;
 
-const SIGNS: usize = 3;
+const KINDS: usize = 3;
 
-const PLANS: usize = 4;
+const SIGNS: usize = 4;
 
-const SINGLE_FAULTS: usize = 5;
+const CHANGED_PLANS: usize = 5;
 
-const FAULTS: usize = 6;
+const TWO_FAULTS: usize = 6;
 
-const CHECK_FAULTS: usize = 7;
+const FAULTS: usize = 7;
 
-const PLANNER_FAULTS: usize = 8;
+const CHECK_FAULTS: usize = 8;
 
-const LENGTHS: usize = 9;
+const PLANNER_FAULTS: usize = 9;
+
+const LENGTHS: usize = 10;
+
+// ---- a case by its group, its stage and its index
+
+fn seed(group: usize, stage: usize, i: usize) -> u32 {
+    seed_of((group % 16 * 16 + stage % 16) as u32, (i % 1048576) as u32)
+}
 
 // Each style of mask, plan and LLRs in turn, with drawn sweeps.
 fn drawn_case(stage: usize, i: usize, seed: u32) -> Case {
@@ -52,21 +62,20 @@ fn drawn_case(stage: usize, i: usize, seed: u32) -> Case {
     }
 }
 
-// Every mask of N to 8, with each style of plan and LLRs.
+// Every mask of N to 8, as a number, with each style of plan and LLRs.
 fn mask_case(stage: usize, i: usize, seed: u32) -> Case {
-    let c = drawn_case(stage, i / 256 * 16, seed);
     Case {
         stage,
         mask: 16,
         detail: i % 256,
-        plan: c.plan,
-        llrs: c.llrs,
-        sweeps: c.sweeps,
+        plan: i / 256 % 4,
+        llrs: i / 1024 % 8,
+        sweeps: 1 + (seed % 16) as usize,
         seed,
     }
 }
 
-// A node of each kind and each size, with each style of plan.
+// A node of each kind and each size, with each style of plan, and drawn LLRs and sweeps.
 fn kind_case(stage: usize, i: usize, seed: u32) -> Case {
     Case {
         stage,
@@ -79,56 +88,105 @@ fn kind_case(stage: usize, i: usize, seed: u32) -> Case {
     }
 }
 
-// The faults 0, 1, 4 and 5 of a plan's check, and 0, 1 and 7 of a planner's call, in the sets of refusals.rt.
-fn check_faults(i: usize) -> usize {
-    i % 4 + i / 4 % 4 * 16
-}
-
-fn planner_faults(i: usize) -> usize {
-    i % 4 + i / 4 % 2 * 128
-}
-
-// Whether a case of the group comes out right.
-fn right(group: usize, stage: usize, i: usize) -> bool
-    requires { ⌜ (1 ≤ stage) × (stage ≤ 10) × (i ≤ 65536) ⌝ }
-{
-    let seed = seed_of((group % 16 * 16 + stage) as u32, i as u32);
+// The case of a group of accepted calls.
+fn case_of(group: usize, stage: usize, i: usize) -> Case {
+    let seed = seed(group, stage, i);
     match group {
-        0 => accepted::decode_case(mask_case(stage, i, seed)),
-        1 => accepted::decode_case(drawn_case(stage, i, seed)),
-        2 => accepted::decode_case(kind_case(stage, i, seed)),
-        3 => accepted::sign_case(drawn_case(stage, i, seed)),
-        4 => accepted::plan_case(drawn_case(stage, i, seed)),
-        5 => refusals::decode_refusal(stage, 1 << (i / 12 % 11), i % 12, seed),
-        6 => refusals::decode_refusal(stage, i % 2048, (seed % 12) as usize, seed),
-        7 => refusals::check_refusal(stage, check_faults(i / 12), i % 12, seed),
-        8 => refusals::plan_refusal(stage, planner_faults(i / 12), i % 12, seed),
-        _ => refusals::length_case(i % 2056, seed),
+        1 => mask_case(stage, i, seed),
+        3 => kind_case(stage, i, seed),
+        _ => drawn_case(stage, i, seed),
     }
 }
+
+// The set of faults of a refused call: one or two faults of a decode, any of a decode, any of 0, 1, 4 and 5 of a plan's check,
+// or any of 0, 1 and 7 of a planner's call.
+fn faults_of(group: usize, i: usize) -> usize {
+    let set = i / 12;
+    match group {
+        6 => (1 << (set % 11)) | (1 << (set / 11 % 11)),
+        7 => i % 2048,
+        8 => set % 4 + set / 4 % 4 * 16,
+        _ => set % 4 + set / 4 % 2 * 128,
+    }
+}
+
+fn variant_of(group: usize, i: usize, seed: u32) -> usize {
+    if group == FAULTS {
+        (seed % 12) as usize
+    } else {
+        i % 12
+    }
+}
+
+fn refusal_right(group: usize, stage: usize, i: usize) -> bool {
+    let seed = seed(group, stage, i);
+    let faults = faults_of(group, i);
+    let variant = variant_of(group, i, seed);
+    match group {
+        8 => refusals::check_refusal(stage, faults, variant, seed),
+        9 => refusals::plan_refusal(stage, faults, variant, seed),
+        _ => refusals::decode_refusal(stage, faults, variant, seed),
+    }
+}
+
+// Whether a case comes out right.
+fn right(group: usize, stage: usize, i: usize) -> bool {
+    match group {
+        0 => frames::frame_case(i),
+        1 | 2 | 3 => accepted::decode_case(case_of(group, stage, i)),
+        4 => accepted::sign_case(case_of(group, stage, i)),
+        5 => accepted::plan_case(case_of(group, stage, i)),
+        10 => refusals::length_case(i % 2056, seed(group, stage, i)),
+        _ => refusal_right(group, stage, i),
+    }
+}
+
+// ---- what is printed
 
 fn print_number(name: &[u8], n: usize) {
     io::write_all(1, name);
     io::print_decimal(1, n as u64);
 }
 
+fn print_case(c: Case) {
+    print_number(b", mask ", c.mask);
+    print_number(b", detail ", c.detail);
+    print_number(b", plan ", c.plan);
+    print_number(b", LLRs ", c.llrs);
+    print_number(b", sweeps ", c.sweeps);
+}
+
+fn print_faults(group: usize, i: usize, seed: u32) {
+    print_number(b", faults ", faults_of(group, i));
+    print_number(b", variant ", variant_of(group, i, seed));
+}
+
+fn print_mismatch(group: usize, stage: usize, i: usize) {
+    let seed = seed(group, stage, i);
+    print_number(b"mismatch: group ", group);
+    print_number(b", stage ", stage);
+    print_number(b", index ", i);
+    match group {
+        1 | 2 | 3 | 4 | 5 => print_case(case_of(group, stage, i)),
+        6 | 7 | 8 | 9 => print_faults(group, i, seed),
+        _ => {}
+    }
+    print_number(b", seed ", seed as usize);
+    io::write_all(1, b"\n");
+}
+
 // Whether a case comes out right; prints it if not.
-fn shown(group: usize, stage: usize, i: usize) -> bool
-    requires { ⌜ (1 ≤ stage) × (stage ≤ 10) × (i ≤ 65536) ⌝ }
-{
+fn shown(group: usize, stage: usize, i: usize) -> bool {
     if right(group, stage, i) {
         return true;
     }
-    print_number(b"mismatch: group ", group);
-    print_number(b" stage ", stage);
-    print_number(b" index ", i);
-    io::write_all(1, b"\n");
+    print_mismatch(group, stage, i);
     false
 }
 
 // How many of the first `count` cases come out right.
 fn count_right(group: usize, stage: usize, count: usize) -> usize
-    requires { ⌜ (1 ≤ stage) × (stage ≤ 10) × (count ≤ 65536) ⌝ }
+    requires { ⌜ count ≤ 65536 ⌝ }
     ensures { λ r. ⌜ r ≤ 65536 ⌝ }
 {
     let mut sum = 0;
@@ -185,12 +243,13 @@ fn report_drawn() {
 }
 
 fn main() {
+    report_group(b"frames: ", FRAMES, 1, 9);
     report_group(b"every mask to N 8: ", EVERY_MASK, 3, 8192);
     report_drawn();
-    report_group(b"kinds at every size: ", KINDS, 10, 264);
+    report_group(b"kinds at every size: ", KINDS, 10, 528);
     report_group(b"encoded words: ", SIGNS, 10, 512);
-    report_group(b"changed plans: ", PLANS, 10, 512);
-    report_group(b"decode, one fault: ", SINGLE_FAULTS, 10, 132);
+    report_group(b"changed plans: ", CHANGED_PLANS, 10, 512);
+    report_group(b"decode, one or two faults: ", TWO_FAULTS, 10, 1452);
     report_group(b"decode, sets of faults: ", FAULTS, 10, 2048);
     report_group(b"check, sets of faults: ", CHECK_FAULTS, 10, 192);
     report_group(b"planner, sets of faults: ", PLANNER_FAULTS, 10, 96);

@@ -71,11 +71,15 @@ fn pick(variant: usize, a: usize, b: usize, c: usize, d: usize) -> usize {
     }
 }
 
-// The first, middle or last of n places, or another.
-fn spot(variant: usize, n: usize, seed: u32) -> usize
-    requires { ⌜ (1 ≤ n) × (n ≤ 2048) ⌝ }
+// The first, middle or last of n places.
+fn spot(variant: usize, n: usize) -> usize
+    requires { ⌜ 1 ≤ n ⌝ }
 {
-    pick(variant / 4, 0, n / 2, n - 1, seed as usize % n)
+    match variant / 4 {
+        0 => 0,
+        1 => n / 2,
+        _ => n - 1,
+    }
 }
 
 fn wrong_length(n: usize, variant: usize) -> usize
@@ -121,7 +125,7 @@ fn spoil_plan(plan: &mut [u8], n: usize, faults: usize, variant: usize)
         set_byte(
             plan,
             pick(variant, 1, n, 2 * n - 1, n / 2),
-            wrong_byte(variant / 2),
+            wrong_byte(variant),
         );
     } else {
         set_byte(plan, 0, 1);
@@ -183,7 +187,7 @@ fn draw_faulty_mask(mask: &mut [u8], stage: usize, faults: usize, variant: usize
     set_byte(mask, 0, bit_if(!no_kind));
     set_byte(mask, 1, bit_if(no_kind));
     if has(faults, 1) {
-        set_byte(mask, spot(variant, n, seed), wrong_byte(variant));
+        set_byte(mask, spot(variant, n), wrong_byte(variant));
     }
 }
 
@@ -193,7 +197,7 @@ fn draw_faulty_llrs(llrs: &mut [i16], n: usize, faults: usize, variant: usize, s
     let mut values = [0u64; 1];
     draw_llrs(3, n, seed, llrs, &mut values);
     if has(faults, 6) {
-        set_short(llrs, spot(variant, n, seed), -32768);
+        set_short(llrs, spot(variant, n), -32768);
     }
 }
 

@@ -67,3 +67,18 @@ pub fn soft_word(a: u64) -> i32 {
         word(negative(a), size(a))
     }
 }
+
+// The value of an LLR: that of the sign and size whose 16-bit number it is. An LLR of -32768 has none.
+pub fn value_of(z: i16) -> u64 {
+    let mut size: u32 = 0;
+    while size < 32768 {
+        if short(false, size) == z {
+            return size as u64;
+        }
+        if short(true, size) == z {
+            return with_sign(true, size as u64);
+        }
+        size += 1;
+    }
+    CERTAIN
+}
