@@ -1,0 +1,2 @@
+-- Laws that the proofs of `decode_test` cite.
+mod Signs

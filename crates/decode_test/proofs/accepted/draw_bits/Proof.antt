@@ -1,0 +1,56 @@
+-- `decode_test::accepted::draw_bits` is safe and ends. The loop's invariant: i is at most n. Assumes nothing.
+use mathlib.Core.Path.{_≡_}
+use Prim.Native.Nat.{_-_, _≤_}
+use lib.ListN.{length}
+use borrow.Author.Needs.{needs}
+use Rattle.decode_test.proofs.accepted.draw_bits.Statement.{statement}
+use Rattle.decode_test.proofs.accepted.draw_bits.Tie as tie
+
+abbrev Inv-loop : tie.InvT-loop
+Inv-loop s₀ n seed x₀ i₀ s x i = (i ≤ n) × (length s ≡ length s₀)
+
+abbrev μ-loop : tie.MeasureT-loop
+μ-loop s₀ n seed x₀ i₀ s x i = n - i
+
+loop-holds : tie.Need-loop-holds Inv-loop μ-loop
+loop-holds c = search needs
+
+next-requires : tie.Need-next-requires Inv-loop μ-loop
+next-requires c κs = search needs
+
+cast-set-byte : tie.Need-cast-set-byte Inv-loop μ-loop
+cast-set-byte c = search needs
+
+set-byte-requires : tie.Need-set-byte-requires Inv-loop μ-loop
+set-byte-requires c κs = search needs
+
+add-i : tie.Need-add-i Inv-loop μ-loop
+add-i c = search needs
+
+loop-less : tie.Need-loop-less Inv-loop μ-loop
+loop-less c = search needs
+
+loop-again : tie.Need-loop-again Inv-loop μ-loop
+loop-again c = search needs
+
+same-length : tie.Need-same-length Inv-loop μ-loop
+same-length c = search needs
+
+returns : tie.Need-returns Inv-loop μ-loop
+returns c = search needs
+
+pub draw-bits-spec : {M : Type 1} → statement M
+draw-bits-spec =
+    tie.close
+    (tie.spec
+    Inv-loop
+    μ-loop
+    loop-holds
+    next-requires
+    cast-set-byte
+    set-byte-requires
+    add-i
+    loop-less
+    loop-again
+    same-length
+    returns)

@@ -1,0 +1,64 @@
+-- `decode_test::cases::draw_mask` is safe and ends. The loop's invariant: i is at most n, and n at most 1024. Assumes nothing.
+use mathlib.Core.Path.{_≡_}
+use Prim.Native.Nat.{_-_, _≤_}
+use lib.ListN.{length}
+use borrow.Author.Needs.{needs}
+use Rattle.decode_test.proofs.cases.draw_mask.Statement.{statement}
+use Rattle.decode_test.proofs.cases.draw_mask.Tie as tie
+
+abbrev Inv-loop : tie.InvT-loop
+Inv-loop c mask₀ n x₀ i₀ mask x i = (i ≤ n) × (n ≤ 1024) × (length mask ≡ length mask₀)
+
+abbrev μ-loop : tie.MeasureT-loop
+μ-loop c mask₀ n x₀ i₀ mask x i = n - i
+
+length-of-requires : tie.Need-length-of-requires Inv-loop μ-loop
+length-of-requires c κs = search needs
+
+loop-holds : tie.Need-loop-holds Inv-loop μ-loop
+loop-holds c = search needs
+
+next-requires : tie.Need-next-requires Inv-loop μ-loop
+next-requires c κs = search needs
+
+frozen-requires : tie.Need-frozen-requires Inv-loop μ-loop
+frozen-requires c κs = search needs
+
+bit-if-requires : tie.Need-bit-if-requires Inv-loop μ-loop
+bit-if-requires c κs = search needs
+
+set-byte-requires : tie.Need-set-byte-requires Inv-loop μ-loop
+set-byte-requires c κs = search needs
+
+add-i : tie.Need-add-i Inv-loop μ-loop
+add-i c = search needs
+
+loop-less : tie.Need-loop-less Inv-loop μ-loop
+loop-less c = search needs
+
+loop-again : tie.Need-loop-again Inv-loop μ-loop
+loop-again c = search needs
+
+same-length : tie.Need-same-length Inv-loop μ-loop
+same-length c = search needs
+
+returns : tie.Need-returns Inv-loop μ-loop
+returns c = search needs
+
+pub draw-mask-spec : {M : Type 1} → statement M
+draw-mask-spec =
+    tie.close
+    (tie.spec
+    Inv-loop
+    μ-loop
+    length-of-requires
+    loop-holds
+    next-requires
+    frozen-requires
+    bit-if-requires
+    set-byte-requires
+    add-i
+    loop-less
+    loop-again
+    same-length
+    returns)

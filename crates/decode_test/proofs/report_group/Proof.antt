@@ -1,0 +1,54 @@
+-- `decode_test::report_group` is safe and ends. The loop's invariant: at most 65536 cases for each N passed. Assumes nothing.
+use Prim.Native.Nat.{_+_, _-_, _*_, _≤_}
+use borrow.Author.Needs.{needs}
+use Rattle.decode_test.proofs.report_group.Statement.{statement}
+use Rattle.decode_test.proofs.report_group.Tie as tie
+
+abbrev Inv-loop : tie.InvT-loop
+Inv-loop name group stages count sum₀ all₀ stage₀ sum all stage = (1 ≤ stage) × (stage ≤ stages + 1) × (sum ≤ 65536 * stage) × (all ≤ 65536 * stage)
+
+abbrev μ-loop : tie.MeasureT-loop
+μ-loop name group stages count sum₀ all₀ stage₀ sum all stage = stages + 1 - stage
+
+loop-holds : tie.Need-loop-holds Inv-loop μ-loop
+loop-holds c = search needs
+
+count-right-requires : tie.Need-count-right-requires Inv-loop μ-loop
+count-right-requires c κs = search needs
+
+add-sum : tie.Need-add-sum Inv-loop μ-loop
+add-sum c = search needs
+
+add-all : tie.Need-add-all Inv-loop μ-loop
+add-all c = search needs
+
+add-stage : tie.Need-add-stage Inv-loop μ-loop
+add-stage c = search needs
+
+loop-less : tie.Need-loop-less Inv-loop μ-loop
+loop-less c = search needs
+
+loop-again : tie.Need-loop-again Inv-loop μ-loop
+loop-again c = search needs
+
+report-requires : tie.Need-report-requires Inv-loop μ-loop
+report-requires c κs = search needs
+
+returns : tie.Need-returns Inv-loop μ-loop
+returns c = search needs
+
+pub report-group-spec : {M : Type 1} → statement M
+report-group-spec =
+    tie.close
+    (tie.spec
+    Inv-loop
+    μ-loop
+    loop-holds
+    count-right-requires
+    add-sum
+    add-all
+    add-stage
+    loop-less
+    loop-again
+    report-requires
+    returns)

@@ -1,0 +1,23 @@
+-- `decode_test::values::short` is safe: the size modulo 2 ^ 15 and its negation fit. Assumes nothing.
+use Prim.Native.Nat.{_%_}
+use native.Mathlib.Omega.{arith}
+use mir.Syntax.{w16}
+use borrow.Author.Needs.{needs}
+use Rattle.decode_test.proofs.Signs.{minus-fits}
+use Rattle.decode_test.proofs.values.short.Statement.{statement}
+use Rattle.decode_test.proofs.values.short.Tie as tie
+
+cast-a : tie.Need-cast-a
+cast-a c = search needs
+
+sub-result : tie.Need-sub-result
+sub-result c = minus-fits w16 (c .before .args .size % 32768) (omega arith)
+
+returns : tie.Need-returns
+returns c = search needs
+
+returns-2 : tie.Need-returns-2
+returns-2 c = search needs
+
+pub short-spec : {M : Type 1} → statement M
+short-spec = tie.close (tie.spec cast-a sub-result returns returns-2)

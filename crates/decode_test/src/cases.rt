@@ -1,0 +1,190 @@
+// Cases: their numbers, and the mask, kinds, plan and LLRs drawn from them.
+use crate::buffers::byte;
+use crate::buffers::set_byte;
+use crate::buffers::set_short;
+use crate::buffers::set_value;
+use crate::nodes::least_stage;
+use crate::nodes::pattern;
+use crate::numbers::bit_if;
+use crate::numbers::length_of;
+use crate::numbers::next;
+use crate::numbers::one_if;
+use crate::values::short;
+use crate::values::with_sign;
+ghost use Prim.Native.Nat.{_≤_};
+
+// A case. The numbers determine it whole.
+pub struct Case {
+    // N is 2 ^ stage.
+    pub stage: usize,
+    // Style of the mask, 0 to 16, and its argument: the stage of a structured node (10 to 15), or the mask as a number (16).
+    pub mask: usize,
+    pub detail: usize,
+    // Style of the plan, 0 to 3 (see nodes.rt).
+    pub plan: usize,
+    // Style of the LLRs, 0 to 7.
+    pub llrs: usize,
+    pub sweeps: usize,
+    pub seed: u32,
+}
+
+// ---- masks
+
+// Styles 0 to 4: no position frozen, all, and drawn ones with chance 1/2, 1/8 and 7/8.
+fn drawn_frozen(style: usize, x: u32) -> bool {
+    match style {
+        0 => false,
+        1 => true,
+        2 => x / 256 % 2 == 0,
+        3 => x / 256 % 8 == 0,
+        _ => x / 256 % 8 != 0,
+    }
+}
+
+// Styles 5 to 9, by a rule with a threshold: the number of ones in the index and then the index, a mix of both, a frozen front,
+// a frozen end, and stripes.
+fn ruled_frozen(style: usize, n: usize, i: usize, threshold: usize) -> bool
+    requires { ⌜ (n ≤ 1024) × (i ≤ 1024) ⌝ }
+{
+    let ones = (usize::count_ones(i) % 16) as usize;
+    match style {
+        5 => ones * 1024 + i < threshold % 11264,
+        6 => ones * 128 + i < threshold % 2304,
+        7 => i < threshold % (n + 1),
+        8 => threshold % (n + 1) <= i,
+        _ => (i >> (threshold % 10)) % 2 == 1,
+    }
+}
+
+// Styles 10 to 15: the node of 2 ^ detail positions around the threshold has the pattern of a kind, and the others are drawn.
+fn node_frozen(kind: u8, size: usize, i: usize, threshold: usize, x: u32) -> bool {
+    if size == 0 {
+        return false;
+    }
+    if i / size == threshold / size {
+        pattern(kind, size, i % size)
+    } else {
+        drawn_frozen(2, x)
+    }
+}
+
+fn kind_of_style(style: usize) -> u8 {
+    match style {
+        10 => 0,
+        11 => 1,
+        12 => 2,
+        13 => 3,
+        14 => 4,
+        _ => 5,
+    }
+}
+
+fn node_size(kind: u8, detail: usize, stage: usize) -> usize {
+    let low = least_stage(kind);
+    if detail < low {
+        return length_of(low);
+    }
+    if stage < detail {
+        return length_of(stage);
+    }
+    length_of(detail)
+}
+
+fn frozen(c: Case, i: usize, x: u32) -> bool
+    requires { ⌜ i ≤ 1024 ⌝ }
+{
+    let n = length_of(c.stage);
+    let threshold = next(c.seed) as usize;
+    if c.mask < 5 {
+        return drawn_frozen(c.mask, x);
+    }
+    if c.mask < 10 {
+        return ruled_frozen(c.mask, n, i, threshold);
+    }
+    if c.mask < 16 {
+        let kind = kind_of_style(c.mask);
+        return node_frozen(
+            kind,
+            node_size(kind, c.detail, c.stage),
+            i,
+            threshold % n,
+            x,
+        );
+    }
+    (c.detail >> (i % 16)) % 2 == 1
+}
+
+pub fn draw_mask(c: Case, mask: &mut [u8]) {
+    let n = length_of(c.stage);
+    let mut x = c.seed;
+    let mut i = 0;
+    while i < n {
+        x = next(x);
+        set_byte(mask, i, bit_if(frozen(c, i, x)));
+        i += 1;
+    }
+}
+
+// How many of the first n positions are unfrozen.
+pub fn unfrozen(mask: &[u8], n: usize) -> usize
+    ensures { λ r. ⌜ r ≤ n ⌝ }
+{
+    let mut count = 0;
+    let mut i = 0;
+    while i < n {
+        count += one_if(byte(mask, i) == 0);
+        i += 1;
+    }
+    count
+}
+
+// ---- LLRs
+
+// Styles: 0 all zero, 1 all at the upper end, 2 all at the lower end, 3 the whole range, 4 from -3 to 3, 5 zero and both ends,
+// 6 the zero word with noise, 7 powers of two.
+fn llr_size(style: usize, x: u32) -> u32 {
+    let y = x / 256;
+    match style {
+        0 => 0,
+        1 | 2 => 32767,
+        3 => y % 32768,
+        4 => y % 4,
+        5 => y % 3 / 2 * 32767,
+        6 => 1 + y % 200,
+        _ => 1 << (y % 15),
+    }
+}
+
+fn llr_negative(style: usize, x: u32) -> bool {
+    match style {
+        1 => false,
+        2 => true,
+        6 => x % 8 == 0,
+        _ => x % 2 == 0,
+    }
+}
+
+// The LLRs of a style, for the library and for the reference.
+pub fn draw_llrs(style: usize, n: usize, seed: u32, llrs: &mut [i16], values: &mut [u64]) {
+    let mut x = seed;
+    let mut i = 0;
+    while i < n {
+        x = next(x);
+        let size = llr_size(style, x);
+        let minus = llr_negative(style, x);
+        set_short(llrs, i, short(minus, size));
+        set_value(values, i, with_sign(minus, size as u64));
+        i += 1;
+    }
+}
+
+// LLRs of drawn sizes from 1 with the signs of a word: a bit 1 is negative.
+pub fn sign_llrs(word: &[u8], n: usize, seed: u32, llrs: &mut [i16]) {
+    let mut x = seed;
+    let mut i = 0;
+    while i < n {
+        x = next(x);
+        set_short(llrs, i, short(byte(word, i) == 1, 1 + x / 256 % 32767));
+        i += 1;
+    }
+}

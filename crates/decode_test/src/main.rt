@@ -1,0 +1,257 @@
+// Compares the decoder, the planner and the check of a plan with a SCAN of its own, walked to the last leaf, over drawn cases,
+// tries the refusals of these calls, and decodes encoded words.
+// Each line of the output has a group of cases, how many came out right, and how many there are. A case that does not come out
+// right is printed with the numbers that determine it: `right(group, stage, index)` runs it alone, and a case of the numbers after
+// these, handed to the function that `right` calls for the group, does so too.
+mod accepted;
+mod buffers;
+mod calls;
+mod cases;
+mod frames;
+mod nodes;
+mod numbers;
+mod reference;
+mod refusals;
+mod values;
+
+use cases::Case;
+use numbers::length_of;
+use numbers::one_if;
+use numbers::seed_of;
+ghost use Prim.Native.Nat.{_*_, _≤_};
+
+// The groups.
+const FRAMES: usize = 0;
+
+const EVERY_MASK: usize = 1;
+
+const DRAWN: usize = 2;
+
+const KINDS: usize = 3;
+
+const SIGNS: usize = 4;
+
+const CHANGED_PLANS: usize = 5;
+
+const TWO_FAULTS: usize = 6;
+
+const FAULTS: usize = 7;
+
+const CHECK_FAULTS: usize = 8;
+
+const PLANNER_FAULTS: usize = 9;
+
+const LENGTHS: usize = 10;
+
+// ---- a case by its group, its stage and its index
+
+fn seed(group: usize, stage: usize, i: usize) -> u32 {
+    seed_of((group % 16 * 16 + stage % 16) as u32, (i % 1048576) as u32)
+}
+
+// Each style of mask, plan and LLRs in turn, with drawn sweeps.
+fn drawn_case(stage: usize, i: usize, seed: u32) -> Case {
+    Case {
+        stage,
+        mask: i % 16,
+        detail: (seed / 16 % 11) as usize,
+        plan: i / 16 % 4,
+        llrs: i / 64 % 8,
+        sweeps: 1 + (seed % 16) as usize,
+        seed,
+    }
+}
+
+// Every mask of N to 8, as a number, with each style of plan and LLRs.
+fn mask_case(stage: usize, i: usize, seed: u32) -> Case {
+    Case {
+        stage,
+        mask: 16,
+        detail: i % 256,
+        plan: i / 256 % 4,
+        llrs: i / 1024 % 8,
+        sweeps: 1 + (seed % 16) as usize,
+        seed,
+    }
+}
+
+// A node of each kind and each size, with each style of plan, and drawn LLRs and sweeps.
+fn kind_case(stage: usize, i: usize, seed: u32) -> Case {
+    Case {
+        stage,
+        mask: 10 + i % 6,
+        detail: i / 6 % 11,
+        plan: i / 66 % 4,
+        llrs: (seed / 16 % 8) as usize,
+        sweeps: 1 + (seed % 16) as usize,
+        seed,
+    }
+}
+
+// The case of a group of accepted calls.
+fn case_of(group: usize, stage: usize, i: usize) -> Case {
+    let seed = seed(group, stage, i);
+    match group {
+        1 => mask_case(stage, i, seed),
+        3 => kind_case(stage, i, seed),
+        _ => drawn_case(stage, i, seed),
+    }
+}
+
+// The set of faults of a refused call: one or two faults of a decode, any of a decode, any of 0, 1, 4 and 5 of a plan's check,
+// or any of 0, 1 and 7 of a planner's call.
+fn faults_of(group: usize, i: usize) -> usize {
+    let set = i / 12;
+    match group {
+        6 => (1 << (set % 11)) | (1 << (set / 11 % 11)),
+        7 => i % 2048,
+        8 => set % 4 + set / 4 % 4 * 16,
+        _ => set % 4 + set / 4 % 2 * 128,
+    }
+}
+
+fn variant_of(group: usize, i: usize, seed: u32) -> usize {
+    if group == FAULTS {
+        (seed % 12) as usize
+    } else {
+        i % 12
+    }
+}
+
+fn refusal_right(group: usize, stage: usize, i: usize) -> bool {
+    let seed = seed(group, stage, i);
+    let faults = faults_of(group, i);
+    let variant = variant_of(group, i, seed);
+    match group {
+        8 => refusals::check_refusal(stage, faults, variant, seed),
+        9 => refusals::plan_refusal(stage, faults, variant, seed),
+        _ => refusals::decode_refusal(stage, faults, variant, seed),
+    }
+}
+
+// Whether a case comes out right.
+fn right(group: usize, stage: usize, i: usize) -> bool {
+    match group {
+        0 => frames::frame_case(i),
+        1 | 2 | 3 => accepted::decode_case(case_of(group, stage, i)),
+        4 => accepted::sign_case(case_of(group, stage, i)),
+        5 => accepted::plan_case(case_of(group, stage, i)),
+        10 => refusals::length_case(i % 2056, seed(group, stage, i)),
+        _ => refusal_right(group, stage, i),
+    }
+}
+
+// ---- what is printed
+
+fn print_number(name: &[u8], n: usize) {
+    io::write_all(1, name);
+    io::print_decimal(1, n as u64);
+}
+
+fn print_case(c: Case) {
+    print_number(b", mask ", c.mask);
+    print_number(b", detail ", c.detail);
+    print_number(b", plan ", c.plan);
+    print_number(b", LLRs ", c.llrs);
+    print_number(b", sweeps ", c.sweeps);
+}
+
+fn print_faults(group: usize, i: usize, seed: u32) {
+    print_number(b", faults ", faults_of(group, i));
+    print_number(b", variant ", variant_of(group, i, seed));
+}
+
+fn print_mismatch(group: usize, stage: usize, i: usize) {
+    let seed = seed(group, stage, i);
+    print_number(b"mismatch: group ", group);
+    print_number(b", stage ", stage);
+    print_number(b", index ", i);
+    match group {
+        1 | 2 | 3 | 4 | 5 => print_case(case_of(group, stage, i)),
+        6 | 7 | 8 | 9 => print_faults(group, i, seed),
+        _ => {}
+    }
+    print_number(b", seed ", seed as usize);
+    io::write_all(1, b"\n");
+}
+
+// Whether a case comes out right; prints it if not.
+fn shown(group: usize, stage: usize, i: usize) -> bool {
+    if right(group, stage, i) {
+        return true;
+    }
+    print_mismatch(group, stage, i);
+    false
+}
+
+// How many of the first `count` cases come out right.
+fn count_right(group: usize, stage: usize, count: usize) -> usize
+    requires { ⌜ count ≤ 65536 ⌝ }
+    ensures { λ r. ⌜ r ≤ 65536 ⌝ }
+{
+    let mut sum = 0;
+    let mut i = 0;
+    while i < count {
+        sum += one_if(shown(group, stage, i));
+        i += 1;
+    }
+    sum
+}
+
+fn report(name: &[u8], right: usize, all: usize) {
+    print_number(name, right);
+    print_number(b" of ", all);
+    io::write_all(1, b"\n");
+}
+
+// A group with the same number of cases for each N to 2 ^ stages.
+fn report_group(name: &[u8], group: usize, stages: usize, count: usize)
+    requires { ⌜ (stages ≤ 10) × (count ≤ 65536) ⌝ }
+{
+    let mut sum = 0;
+    let mut all = 0;
+    let mut stage = 1;
+    while stage <= stages {
+        sum += count_right(group, stage, count);
+        all += count;
+        stage += 1;
+    }
+    report(name, sum, all);
+}
+
+// Fewer cases for the largest N.
+fn drawn_count(stage: usize) -> usize
+    ensures { λ r. ⌜ r ≤ 65536 ⌝ }
+{
+    match stage {
+        10 => 512,
+        9 => 1024,
+        8 => 2048,
+        _ => 4096,
+    }
+}
+
+// One line for each N.
+fn report_drawn() {
+    let mut stage = 1;
+    while stage <= 10 {
+        let count = drawn_count(stage);
+        print_number(b"N ", length_of(stage));
+        report(b" drawn cases ", count_right(DRAWN, stage, count), count);
+        stage += 1;
+    }
+}
+
+fn main() {
+    report_group(b"frames: ", FRAMES, 1, 9);
+    report_group(b"every mask to N 8: ", EVERY_MASK, 3, 8192);
+    report_drawn();
+    report_group(b"kinds at every size: ", KINDS, 10, 528);
+    report_group(b"encoded words: ", SIGNS, 10, 512);
+    report_group(b"changed plans: ", CHANGED_PLANS, 10, 512);
+    report_group(b"decode, one or two faults: ", TWO_FAULTS, 10, 1452);
+    report_group(b"decode, sets of faults: ", FAULTS, 10, 2048);
+    report_group(b"check, sets of faults: ", CHECK_FAULTS, 10, 192);
+    report_group(b"planner, sets of faults: ", PLANNER_FAULTS, 10, 96);
+    report_group(b"lengths of the mask: ", LENGTHS, 1, 2056);
+}
