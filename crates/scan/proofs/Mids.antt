@@ -14,8 +14,9 @@ use Rattle.model.specs.Bounds.{limit, Small, Under, SmallAll, UnderAll, cap}
 use Rattle.model.proofs.Lists.{double, tabulate-ext}
 use Rattle.model.proofs.Algebra.{plus-comm}
 use Rattle.model.proofs.Bounds.{small-box, small-plus, under-box, under-plus, under-mono, small-mono}
-use Rattle.words.specs.Words.{Added, word, softOf, soft, write, boxWord, addWord, boxPlus, plusBox, Words, Sums, BoxSums, FiniteBoxSums}
+use Rattle.words.specs.Words.{Added, word, softOf, soft, write, Holds, boxWord, addWord, boxPlus, plusBox, Words, Sums, BoxSums, FiniteBoxSums}
 use Rattle.words.proofs.Laws.{soft-at, small-under, small-size, under-word, soft-box, soft-add, add-word}
+use Rattle.words.proofs.Store.{source-below}
 use Rattle.scan.specs.Space.{treeAt, part, Kept, Visited}
 use Rattle.scan.proofs.Keep.{Fit, kept-refl, kept-trans, kept-scratch, kept-row, kept-child, fit-kept, tree-cong, message-at, under, stored-at}
 
@@ -99,6 +100,24 @@ module _ (N t b x : ℕ) (w : List ℤ) (fit : Fit N (suc t) b x (length w)) (v 
       lefts = tree-cong N t b v z (λ u i le low high. s .kept .rows u i le (omega (arith, fit .within, two)) (inl high)) ∙ m .lefts;
       rights = s .tree ∙ ap (λ (T : Tree). walk plan t p (part mask (b + 2 ^ t) t) T (soft v (x + (2 ^ t + 2 ^ t)) (2 ^ t))) (m .rights);
     }
+
+  -- the right child's incoming list outlasts the child's visit, and so does what it was made of
+  pub right-stays : (z y : List ℤ) → z ≡ write v (x + (2 ^ t + 2 ^ t)) (2 ^ t) (plusBox v x (t * N + b) (x + 2 ^ t)) → Kept N t (b + 2 ^ t) (x + (2 ^ t + 2 ^ t)) z y
+      → Holds y (x + (2 ^ t + 2 ^ t)) (2 ^ t) (plusBox y x (t * N + b) (x + 2 ^ t))
+  right-stays z y e kept k lt =
+      kept .between (x + (2 ^ t + 2 ^ t) + k) (omega (arith, fit .rows, row)) (omega arith)
+      ∙ stored-at v z (x + (2 ^ t + 2 ^ t)) (2 ^ t) (plusBox v x (t * N + b) (x + 2 ^ t)) k e lt (omega (arith, fit .fit, m .kept .long, two))
+      ∙ sym (ap₂ addWord (ap₂ boxWord (listed (x + k) (omega arith) (omega arith)) left) (listed (x + 2 ^ t + k) (omega arith) (omega arith)))
+    where
+      listed : (j : ℕ) → x ≤ j → j < x + (2 ^ t + 2 ^ t) → word y j ≡ word v j
+      listed j low high = kept .between j (omega (arith, fit .rows, row)) (omega arith) ∙ source-below (pos 0) v z (x + (2 ^ t + 2 ^ t)) (2 ^ t) (plusBox v x (t * N + b) (x + 2 ^ t)) j e high
+
+      left : word y (t * N + b + k) ≡ word v (t * N + b + k)
+      left =
+          ap (word y) (let q : t * N + b + k ≡ t * N + (b + k) = omega arith in q)
+          ∙ kept .rows t (b + k) (omega arith) (omega (arith, fit .within, two)) (inl (omega arith))
+          ∙ ap (word z) (let q : t * N + (b + k) ≡ t * N + b + k = omega arith in q)
+          ∙ source-below (pos 0) v z (x + (2 ^ t + 2 ^ t)) (2 ^ t) (plusBox v x (t * N + b) (x + 2 ^ t)) (t * N + b + k) e (omega (arith, fit .rows, fit .within, row, two))
 
   -- ---- what is read in the middle of a visit
   pub at-list : (k : ℕ) → k < 2 ^ suc t → softOf (word v (x + k)) ≡ soft w x (2 ^ suc t) at k

@@ -19,11 +19,11 @@ use Rattle.model.proofs.Lists.{T-true, true-T, double, tabulate-halves, and-l, 
 use Rattle.model.proofs.PlannedWalk.{walk-cut, walk-through, descend}
 use Rattle.model.proofs.Paths.{wellCut-cut, wellCut-through}
 use Rattle.model.proofs.Bounds.{cap-suc, small-toLeft, small-toRight, held-walk, held-message}
-use Rattle.words.specs.Words.{FiniteBoxSums, word, softOf, soft, write, boxPlus, plusBox, Words, Sums, BoxSums}
+use Rattle.words.specs.Words.{FiniteBoxSums, Holds, word, softOf, soft, write, boxPlus, plusBox, Words, Sums, BoxSums}
 use Rattle.words.proofs.Store.{source-below, length-write}
 use Rattle.scan.specs.Space.{constant, treeAt, part, Room, Visited}
 use Rattle.scan.proofs.Keep.{Fit, node-path, part-left, part-right}
-use Rattle.scan.proofs.Mids.{Mid, mid-start, mid-scratch, mid-row, mid-left, mid-right, words-list, words-left, right-sums, right-list, left-sums, left-list, up-sums, low-half, high-half}
+use Rattle.scan.proofs.Mids.{Mid, mid-start, mid-scratch, mid-row, mid-left, mid-right, words-list, words-left, right-sums, right-stays, right-list, left-sums, left-list, up-sums, low-half, high-half}
 
 -- ---- the stores of an uncut visit: h is half the size, u the stage below, c the place of the child's incoming list
 -- a child's incoming list is stored unless the child is constant
@@ -53,7 +53,8 @@ pub record Run (plan mask : List ℕ) (N t p b x : ℕ) (w : List ℤ) (h u c : 
       → (s₃ : Bool) → SkipOf plan mask h (2 * p + 1) (b + h) s₃ → (w₃ : List ℤ) → RightList N b x h u c s₃ w₂ w₃ → Room plan mask N u h (2 * p + 1) (b + h) c w₃
   pub five : (s₁ : Bool) → SkipOf plan mask h (2 * p) b s₁ → (w₁ w₂ : List ℤ) → LeftList N b x h u c s₁ w w₁ → Visited plan mask N u (2 * p) b c w₁ w₂
       → (s₃ : Bool) → SkipOf plan mask h (2 * p + 1) (b + h) s₃ → (w₃ w₄ : List ℤ) → RightList N b x h u c s₃ w₂ w₃ → Visited plan mask N u (2 * p + 1) (b + h) c w₃ w₄
-      → Words w₄ x h × Words w₄ (u * N + b) h × Sums w₄ (x + h) (u * N + b + h) h × BoxSums w₄ x (u * N + b) (u * N + b + h) h
+      → (Words w₄ x h × Words w₄ (u * N + b) h × Sums w₄ (x + h) (u * N + b + h) h × BoxSums w₄ x (u * N + b) (u * N + b + h) h)
+      × (FiniteBoxSums w₄ x (u * N + b) (x + h) h × (s₃ ≡ false → Holds w₄ c h (plusBox w₄ x (u * N + b) (x + h))))
   pub done : (s₁ : Bool) → SkipOf plan mask h (2 * p) b s₁ → (w₁ w₂ : List ℤ) → LeftList N b x h u c s₁ w w₁ → Visited plan mask N u (2 * p) b c w₁ w₂
       → (s₃ : Bool) → SkipOf plan mask h (2 * p + 1) (b + h) s₃ → (w₃ w₄ : List ℤ) → RightList N b x h u c s₃ w₂ w₃ → Visited plan mask N u (2 * p + 1) (b + h) c w₃ w₄
       → (w₅ : List ℤ) → NodeStored N t b x h u w₄ w₅ → Visited plan mask N t p b x w w₅
@@ -214,8 +215,11 @@ module _ (plan mask : List ℕ) (N t s p b x : ℕ) (w : List ℤ) (room : Room 
             go true e = subst (λ (z : List ℤ). Mid N t b x w z A TB) (sym e) m₂
             go false e = mid-scratch N t b x w fits w₂ A TB m₂ w₃ _ e
 
+        stored₃ : s₃ ≡ false → w₃ ≡ write w₂ c h (plusBox w₂ x (t * N + b) (x + h))
+        stored₃ q = e₃ ∙ ap (λ (s : Bool). cond s w₂ (write w₂ c h (plusBox w₂ x (t * N + b) (x + h)))) q
+
         in₃ : s₃ ≡ false → soft w₃ c h ≡ toRight h L (message A)
-        in₃ q = right-list N t b x w fits w₂ A TB m₂ bd S lim UA lim₂ w₃ (e₃ ∙ ap (λ (s : Bool). cond s w₂ (write w₂ c h (plusBox w₂ x (t * N + b) (x + h)))) q)
+        in₃ q = right-list N t b x w fits w₂ A TB m₂ bd S lim UA lim₂ w₃ (stored₃ q)
 
         room₃ : Room plan mask N t h (2 * p + 1) (b + h) c w₃
         room₃ = record {
@@ -243,6 +247,9 @@ module _ (plan mask : List ℕ) (N t s p b x : ℕ) (w : List ℤ) (room : Room 
         module _ (w₄ : List ℤ) (v₄ : Visited plan mask N t (2 * p + 1) (b + h) c w₃ w₄) where
           m₄ : Mid N t b x w w₄ A B
           m₄ = subst (λ (T : Tree). Mid N t b x w w₄ A T) (right-walk s₃ refl) (mid-right N t b x w fits w₃ A TB m₃ plan mask (2 * p + 1) w₄ v₄)
+
+          listed₄ : s₃ ≡ false → Holds w₄ c h (plusBox w₄ x (t * N + b) (x + h))
+          listed₄ q = right-stays N t b x w fits w₂ A TB m₂ w₃ w₄ (stored₃ q) (v₄ .kept)
 
           -- the first half of the message
           half : List ℤ
@@ -285,8 +292,10 @@ module _ (plan mask : List ℕ) (N t s p b x : ℕ) (w : List ℤ) (room : Room 
         (words-list N t b x w fits w₂ A TB m bd S lim, words-left N t b x w fits w₂ A TB m bd S lim UA, right-sums N t b x w fits w₂ A TB m bd S lim UA lim₂);
     four = λ s₁ k₁ w₁ w₂ e₁ v₂ s₃ k₃ w₃ e₃. room₃ s₁ k₁ w₁ e₁ w₂ v₂ s₃ k₃ w₃ e₃;
     five = λ s₁ k₁ w₁ w₂ e₁ v₂ s₃ k₃ w₃ w₄ e₃ v₄.
-        let m = m₄ s₁ k₁ w₁ e₁ w₂ v₂ s₃ k₃ w₃ e₃ w₄ v₄ in
-        (words-list N t b x w fits w₄ A B m bd S lim, words-left N t b x w fits w₄ A B m bd S lim UA, left-sums N t b x w fits w₄ A B m bd S lim UB, up-sums N t b x w fits w₄ A B m bd S lim UB UA);
+        let m = m₄ s₁ k₁ w₁ e₁ w₂ v₂ s₃ k₃ w₃ e₃ w₄ v₄ in (
+          (words-list N t b x w fits w₄ A B m bd S lim, words-left N t b x w fits w₄ A B m bd S lim UA, left-sums N t b x w fits w₄ A B m bd S lim UB, up-sums N t b x w fits w₄ A B m bd S lim UB UA),
+          (right-sums N t b x w fits w₄ A B m bd S lim UA lim₂, listed₄ s₁ k₁ w₁ e₁ w₂ v₂ s₃ k₃ w₃ e₃ w₄ v₄),
+        );
     done = λ s₁ k₁ w₁ w₂ e₁ v₂ s₃ k₃ w₃ w₄ e₃ v₄ w₅ e₅. visited s₁ k₁ w₁ e₁ w₂ v₂ s₃ k₃ w₃ e₃ w₄ v₄ w₅ e₅;
   }
 

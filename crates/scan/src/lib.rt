@@ -12,6 +12,7 @@ use words::copy_words;
 use words::fill;
 use words::leaf_words;
 use words::load_llrs;
+use words::message_by_list;
 use words::node_message;
 use words::plus_box;
 ghost use mathlib.Core.Path.{_≡_};
@@ -21,7 +22,7 @@ ghost use lib.IntN.{pos};
 ghost use mathlib.Core.List.{map};
 ghost use Rattle.model.specs.Soft.{finite};
 ghost use Rattle.model.specs.Scan.{scan};
-ghost use Rattle.words.specs.Words.{Incoming, stored, write, boxPlus, plusBox, Words, Sums, FiniteBoxSums};
+ghost use Rattle.words.specs.Words.{Incoming, stored, write, Holds, boxPlus, plusBox, Words, Sums, BoxSums, FiniteBoxSums};
 ghost use Rattle.model.specs.Kinds.{kindOf, isSome};
 ghost use Rattle.model.specs.Plans.{isCut, isRate01};
 ghost use lib.Dec.{T};
@@ -98,6 +99,21 @@ fn right_list(w: &mut [i32], skip: bool, c: usize, x: usize, l: usize, h: usize)
     }
 }
 
+// The node's message, at m: its incoming list is at x, its children's messages at l and l + h. The right child's incoming list is still at c, unless
+// that child is constant.
+fn own_message(w: &mut [i32], skip: bool, m: usize, x: usize, l: usize, c: usize, h: usize)
+    requires { ⌜ (l + (h + h) ≤ m) × (m + (h + h) ≤ x) × (x + (h + h) ≤ c) × (c + h ≤ length (now w)) ⌝ }
+    requires { ⌜ Words (now w) x h × Words (now w) l h × Sums (now w) (x + h) (l + h) h × BoxSums (now w) x l (l + h) h ⌝ }
+    requires { ⌜ FiniteBoxSums (now w) x l (x + h) h × (skip ≡ false → Holds (now w) c h (plusBox (now w) x l (x + h))) ⌝ }
+    ensures { λ _. ⌜ now (w .exit) ≡ write (write (now (w .entry)) m h (boxPlus (now (w .entry)) l (x + h) (l + h))) (m + h) h (plusBox (now (w .entry)) x l (l + h)) ⌝ }
+{
+    if skip {
+        node_message(w, m, x, l, h);
+    } else {
+        message_by_list(w, m, x, l, c, h);
+    }
+}
+
 // Visits node p of stage t, of s positions from b on, whose incoming list is at x.
 fn visit(
     work: &mut [i32],
@@ -133,7 +149,7 @@ fn visit(
     let skip_right = is_constant(plan, mask, q + 1, d, h);
     right_list(work, skip_right, c, x, l, h);
     visit(work, plan, mask, n, u, h, q + 1, d, c);
-    node_message(work, m, x, l, h);
+    own_message(work, skip_right, m, x, l, c, h);
 }
 
 // One sweep along the plan: a visit of the root with the incoming list that stands past the rows of messages.

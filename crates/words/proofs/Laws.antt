@@ -4,7 +4,7 @@ use mathlib.Core.Logic.{_⊎_, inl, inr, ⊎-elim}
 use mathlib.Core.Bool.{Bool, true, false, cond}
 use Prim.Native.Nat.{ℕ, suc, _+_, _≤_, _<_, min}
 use native.Mathlib.Omega.{arith}
-use lib.IntN.{ℤ, pos, negsuc, negℤ, natAbs, _+ℤ_, +ℤ-comm}
+use lib.IntN.{ℤ, pos, negsuc, negℤ, natAbs, _+ℤ_, _-ℤ_, +ℤ-comm, +ℤ-negℤ-cancel}
 use lib.Dec.{eqb}
 use borrow.Author.Tests.{eqb-true, ne-eqb}
 use mathlib.Core.List.{List}
@@ -69,10 +69,17 @@ pub addWord-fin : (a b : ℤ) → (a ≡ pos mark → ⊥) → (b ≡ pos mark �
 unfolding addWord plus
 addWord-fin a b ha hb = rw (soft-fin a ha, soft-fin b hb)
 
+pub not-mark : (z : ℤ) → natAbs z < mark → z ≡ pos mark → ⊥
+not-mark z h e = let f : natAbs z ≡ mark = ap natAbs e in omega arith
+
+-- a finite sum less one of the two
+pub add-less : (a b : ℤ) → natAbs a < mark → natAbs b < mark → addWord a b -ℤ b ≡ a
+add-less a b ha hb = rw (addWord-fin a b (not-mark a ha) (not-mark b hb)) (+ℤ-negℤ-cancel a b)
+
 -- the sum by one choice, where a is finite
 pub add-by : (t : Bool) (a b : ℤ) → (t ≡ true → b ≡ pos mark) → (t ≡ false → b ≡ pos mark → ⊥) → natAbs a < mark → b +ℤ cond t (pos 0) a ≡ addWord a b
 add-by true a b y n h = ap (λ (z : ℤ). z +ℤ pos 0) (y refl) ∙ sym (ap (addWord a) (y refl) ∙ addWord-r a)
-add-by false a b y n h = +ℤ-comm b a ∙ sym (addWord-fin a b (λ e. let f : natAbs a ≡ mark = ap natAbs e in omega arith) (n refl))
+add-by false a b y n h = +ℤ-comm b a ∙ sym (addWord-fin a b (not-mark a h) (n refl))
 
 pub signed-is : (s : Bool) (n : ℕ) → cond s (negℤ (pos n)) (pos n) ≡ signed s n
 signed-is true n = refl
@@ -82,7 +89,7 @@ signed-is false n = refl
 -- a soft value of a size below the mark
 pub soft-word : (c : ℕ) (s : Soft) → c < mark → Under c s → softOf (wordOf s) ≡ s
 soft-word c certain l u = refl
-soft-word c (finite z) l u = soft-fin z (λ e. let f : natAbs z ≡ mark = ap natAbs e in omega arith)
+soft-word c (finite z) l u = soft-fin z (not-mark z (omega arith))
 
 pub word-in : (c : ℕ) (s : Soft) → c ≤ mark → Under c s → Word (wordOf s)
 word-in c certain l u = omega arith

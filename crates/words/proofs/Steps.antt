@@ -1,13 +1,14 @@
 -- Laws of the routines that combine halves. Assumes nothing.
 use mathlib.Core.Path.{_≡_, ap, ap₂, _∙_}
+use mathlib.Core.Logic.{_⊎_, inl, inr}
 use lib.IntN.{ℤ, pos}
 use mathlib.Core.List.{List}
 use Prim.Native.Nat.{ℕ, _+_, _-_, _≤_, _<_}
 use native.Mathlib.Omega.{arith}
 use lib.ListN.{length, getD}
 use borrow.Rule.Slice.PartMut.{midOf, putMid}
-use Rattle.words.specs.Words.{write, addWord, boxAt, plusBox, plusFront}
-use Rattle.words.proofs.Store.{length-write, write-in, write-below, write-ext, write-over, write-mid, getD-mid}
+use Rattle.words.specs.Words.{word, write, addWord, boxAt, boxPlus, plusBox, plusFront}
+use Rattle.words.proofs.Store.{length-write, write-in, write-below, write-ext, write-over, write-mid, getD-mid, source-both}
 
 -- the words that the part that starts at c has to add
 module _ (w v : List ℤ) (d a b c h : ℕ) (fit : d + h ≤ length w) (le : c + h ≤ d) (ev : v ≡ write w d h (boxAt w a b)) (k : ℕ) (lt : k < h) where
@@ -42,3 +43,24 @@ plus-box-law w v part d a b c h fit le ev ep =
     ∙ write-ext (pos 0) v d h (plusFront P (d - c)) (plusBox w a b c) (plus-front-law w v d a b c h fit le ev)
     ∙ ap (λ (l : List ℤ). write l d h (plusBox w a b c)) ev
     ∙ write-over (pos 0) w d h (boxAt w a b) (plusBox w a b c) fit
+
+-- ---- the message of a node
+-- the first k words of both halves are stored, and nothing else is
+abbrev pub Halves : List ℤ → (m x l h k : ℕ) → List ℤ → Type 0
+Halves w₀ m x l h k w = w ≡ write (write w₀ m k (boxPlus w₀ l (x + h) (l + h))) (m + h) k (plusBox w₀ x l (l + h))
+
+-- what is read then is as it was at entry: the children's messages before m, and all from the incoming list on
+pub record Sources (w₀ w : List ℤ) (x l h k : ℕ) : Type 0 where
+  pub left : word w (l + k) ≡ word w₀ (l + k)
+  pub right : word w (l + h + k) ≡ word w₀ (l + h + k)
+  pub list : (j : ℕ) → x ≤ j → word w j ≡ word w₀ j
+
+pub sources : (w₀ w : List ℤ) (m x l h k : ℕ) → l + (h + h) ≤ m → m + (h + h) ≤ x → Halves w₀ m x l h k w → k < h → Sources w₀ w x l h k
+sources w₀ w m x l h k low high e lt = record {
+  left = outside (l + k) (inl (omega arith));
+  right = outside (l + h + k) (inl (omega arith));
+  list = λ j le. outside j (inr (omega arith));
+}
+  where
+    outside : (j : ℕ) → (j < m) ⊎ (m + (h + h) ≤ j) → word w j ≡ word w₀ j
+    outside j = source-both (pos 0) w₀ w m h k (boxPlus w₀ l (x + h) (l + h)) (plusBox w₀ x l (l + h)) j e (omega arith)

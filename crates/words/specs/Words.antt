@@ -1,4 +1,5 @@
 -- 32-bit words that hold soft values: 2147483647 is the mark of certain. Assumes nothing: these are definitions.
+use mathlib.Core.Path.{_≡_}
 use mathlib.Core.Logic.{_⊎_}
 use mathlib.Core.Bool.{Bool, cond, not, Bool·beq}
 use mathlib.Core.List.{List}
@@ -48,6 +49,10 @@ stored w m s M = write w m s (λ k. wordOf (M at k))
 -- the n words from a and the n words from b share no word
 abbrev pub Apart : ℕ → ℕ → ℕ → Type 0
 Apart n a b = (a + n ≤ b) ⊎ (b + n ≤ a)
+
+-- the n words from a on are f 0, .., f (n - 1)
+abbrev pub Holds : List ℤ → ℕ → ℕ → (ℕ → ℤ) → Type 0
+Holds w a n f = (k : ℕ) → k < n → word w (a + k) ≡ f k
 
 -- ---- what the routines that combine halves store
 abbrev pub boxAt : List ℤ → ℕ → ℕ → ℕ → ℤ

@@ -2,11 +2,12 @@
 ghost use mathlib.Core.Path.{_≡_};
 ghost use mathlib.Core.Bool.{cond};
 ghost use Prim.Native.Nat.{ℕ, _+_, _<_, _≤_};
+ghost use lib.IntN.{_-ℤ_};
 ghost use lib.Signed.{ltZ};
 ghost use lib.ListN.{length, getD};
 ghost use Rattle.model.specs.Soft.{wordOf};
 ghost use Rattle.model.specs.Scan.{leafValue};
-ghost use Rattle.words.specs.Words.{boxWord, addWord, Word, Added, word, write, Apart, boxAt, boxPlus, plusBox, plusFront, Words, Finite, Sums, BoxSums, FiniteBoxSums};
+ghost use Rattle.words.specs.Words.{boxWord, addWord, Word, Added, word, write, Apart, Holds, boxAt, boxPlus, plusBox, plusFront, Words, Finite, Sums, BoxSums, FiniteBoxSums};
 
 fn min_word(a: i32, b: i32) -> i32
     ensures { λ r. ⌜ r ≡ cond (ltZ a b) a b ⌝ }
@@ -50,6 +51,14 @@ fn add_finite(a: i32, b: i32) -> i32
     ensures { λ r. ⌜ r ≡ addWord a b ⌝ }
 {
     a + b
+}
+
+// The difference of two words, which must be a word.
+fn sub_words(a: i32, b: i32) -> i32
+    requires { ⌜ Word (a -ℤ b) ⌝ }
+    ensures { λ r. ⌜ r ≡ a -ℤ b ⌝ }
+{
+    a - b
 }
 
 // w[d + k] = box(w[a + k], w[b + k] + w[c + k])
@@ -123,6 +132,29 @@ pub fn node_message(w: &mut [i32], m: usize, x: usize, l: usize, h: usize)
         let right = w[r + k];
         w[m + k] = box_words(left, add_words(second, right));
         w[g + k] = add_words(box_words(first, left), right);
+        k += 1;
+    }
+}
+
+// The same message, where the right child's incoming list w[c + k] = box(w[x + k], w[l + k]) + w[x + h + k] is still at c: less w[x + h + k], its
+// words are the boxes of the second half.
+pub fn message_by_list(w: &mut [i32], m: usize, x: usize, l: usize, c: usize, h: usize)
+    requires { ⌜ (l + (h + h) ≤ m) × (m + (h + h) ≤ x) × (x + (h + h) ≤ c) × (c + h ≤ length (now w)) ⌝ }
+    requires { ⌜ Words (now w) l h × Sums (now w) (x + h) (l + h) h × BoxSums (now w) x l (l + h) h ⌝ }
+    requires { ⌜ FiniteBoxSums (now w) x l (x + h) h × Holds (now w) c h (plusBox (now w) x l (x + h)) ⌝ }
+    ensures { λ _. ⌜ now (w .exit) ≡ write (write (now (w .entry)) m h (boxPlus (now (w .entry)) l (x + h) (l + h))) (m + h) h (plusBox (now (w .entry)) x l (l + h)) ⌝ }
+{
+    let y = x + h;
+    let r = l + h;
+    let g = m + h;
+    let mut k = 0;
+    while k < h {
+        let list = w[c + k];
+        let high = w[y + k];
+        let left = w[l + k];
+        let right = w[r + k];
+        w[m + k] = box_words(left, add_words(high, right));
+        w[g + k] = add_words(sub_words(list, high), right);
         k += 1;
     }
 }

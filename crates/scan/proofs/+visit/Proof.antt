@@ -27,7 +27,7 @@ use Rattle.scan.proofs.cut_message.Reads as cut-message-reads
 use Rattle.scan.proofs.is_constant.Reads as is-constant-reads
 use Rattle.scan.proofs.left_list.Reads as left-list-reads
 use Rattle.scan.proofs.right_list.Reads as right-list-reads
-use Rattle.words.proofs.node_message.Reads as node-message-reads
+use Rattle.scan.proofs.own_message.Reads as own-message-reads
 
 abbrev μ-visit : Measures 3 visit-kinds.ps ℕ
 μ-visit κs a = a .1 .1 .1 .1 .0
@@ -40,7 +40,7 @@ visit-below t = and 3 visit-kinds.ps (falls 3 visit-kinds.ps _<_ μ-visit t) vis
 
 -- what the callees ask and ensure
 abbrev around : ℕ → visit-lts.Claims
-around t = (cut-kind-reads.Asked, cut-kind-reads.Learnt, cut-message-reads.Asked, cut-message-reads.Learnt, is-constant-reads.Asked, is-constant-reads.Learnt, left-list-reads.Asked, left-list-reads.Learnt, visit-below t, visit.Post, right-list-reads.Asked, right-list-reads.Learnt, node-message-reads.Asked, node-message-reads.Learnt)
+around t = (cut-kind-reads.Asked, cut-kind-reads.Learnt, cut-message-reads.Asked, cut-message-reads.Learnt, is-constant-reads.Asked, is-constant-reads.Learnt, left-list-reads.Asked, left-list-reads.Learnt, visit-below t, visit.Post, right-list-reads.Asked, right-list-reads.Learnt, own-message-reads.Asked, own-message-reads.Learnt)
 
 module _ (t : ℕ) where
   abbrev Uncut : Type 0
@@ -271,23 +271,23 @@ module _ (t : ℕ) where
       let len = c .before .before .right-list .kept .0 ∙ c .before .before .before .before .before .before .visit .kept .0 ∙ c .before .before .before .before .before .before .before .before .before .left-list .kept .0 in
       (omega arith, running el .four (c .before .before .before .before .before .before .before .before .before .before .before .is-constant .result) (c .before .before .before .before .before .before .before .before .before .before .before .is-constant .ensures) (c .before .before .before .before .before .before .before .before .before .left-list .last .0) (c .before .before .before .before .before .before .visit .last .0) (c .before .before .before .before .before .before .before .before .before .left-list .ensures) (c .before .before .before .before .before .before .visit .ensures) (c .before .before .before .before .is-constant2 .result) (c .before .before .before .before .is-constant2 .ensures) (c .before .before .right-list .last .0) (c .before .before .right-list .ensures))
 
-  visit-node-message-requires : visit-lts.Need-node-message-requires (around t) (visit-at t) visit.Post
-  visit-node-message-requires c κs =
+  visit-own-message-requires : visit-lts.Need-own-message-requires (around t) (visit-at t) visit.Post
+  visit-own-message-requires c κs =
       let start = c .before .before .before .before .before .before .before .before .before .before .before .before .before .before .before .before .before .before .before in
       let a = start .args in
       let room = start .pre .1 in
       let el = c .before .before .before .before .before .before .before .before .before .before .before .before .before .before .before in
       let g = numbers el in
       let len = c .before .before .visit2 .kept .0 ∙ c .before .before .before .before .before .right-list .kept .0 ∙ c .before .before .before .before .before .before .before .before .before .visit .kept .0 ∙ c .before .before .before .before .before .before .before .before .before .before .before .before .left-list .kept .0 in
-      ((omega arith, omega arith, omega arith), running el .five (c .before .before .before .before .before .before .before .before .before .before .before .before .before .before .is-constant .result) (c .before .before .before .before .before .before .before .before .before .before .before .before .before .before .is-constant .ensures) (c .before .before .before .before .before .before .before .before .before .before .before .before .left-list .last .0) (c .before .before .before .before .before .before .before .before .before .visit .last .0) (c .before .before .before .before .before .before .before .before .before .before .before .before .left-list .ensures) (c .before .before .before .before .before .before .before .before .before .visit .ensures) (c .before .before .before .before .before .before .before .is-constant2 .result) (c .before .before .before .before .before .before .before .is-constant2 .ensures) (c .before .before .before .before .before .right-list .last .0) (c .before .before .visit2 .last .0) (c .before .before .before .before .before .right-list .ensures) (c .before .before .visit2 .ensures))
+      ((omega arith, omega arith, omega arith, omega arith), running el .five (c .before .before .before .before .before .before .before .before .before .before .before .before .before .before .is-constant .result) (c .before .before .before .before .before .before .before .before .before .before .before .before .before .before .is-constant .ensures) (c .before .before .before .before .before .before .before .before .before .before .before .before .left-list .last .0) (c .before .before .before .before .before .before .before .before .before .visit .last .0) (c .before .before .before .before .before .before .before .before .before .before .before .before .left-list .ensures) (c .before .before .before .before .before .before .before .before .before .visit .ensures) (c .before .before .before .before .before .before .before .is-constant2 .result) (c .before .before .before .before .before .before .before .is-constant2 .ensures) (c .before .before .before .before .before .right-list .last .0) (c .before .before .visit2 .last .0) (c .before .before .before .before .before .right-list .ensures) (c .before .before .visit2 .ensures))
 
   visit-same-length-2 : visit-lts.Need-same-length-2 (around t) (visit-at t) visit.Post
-  visit-same-length-2 c = c .before .node-message .kept .0 ∙ c .before .before .before .before .visit2 .kept .0 ∙ c .before .before .before .before .before .before .before .right-list .kept .0 ∙ c .before .before .before .before .before .before .before .before .before .before .before .visit .kept .0 ∙ c .before .before .before .before .before .before .before .before .before .before .before .before .before .before .left-list .kept .0
+  visit-same-length-2 c = c .before .own-message .kept .0 ∙ c .before .before .before .before .visit2 .kept .0 ∙ c .before .before .before .before .before .before .before .right-list .kept .0 ∙ c .before .before .before .before .before .before .before .before .before .before .before .visit .kept .0 ∙ c .before .before .before .before .before .before .before .before .before .before .before .before .before .before .left-list .kept .0
 
   visit-returns-2 : visit-lts.Need-returns-2 (around t) (visit-at t) visit.Post
   visit-returns-2 c =
       let el = c .before .before .before .before .before .before .before .before .before .before .before .before .before .before .before .before .before in
-      running el .done (c .before .before .before .before .before .before .before .before .before .before .before .before .before .before .before .before .is-constant .result) (c .before .before .before .before .before .before .before .before .before .before .before .before .before .before .before .before .is-constant .ensures) (c .before .before .before .before .before .before .before .before .before .before .before .before .before .before .left-list .last .0) (c .before .before .before .before .before .before .before .before .before .before .before .visit .last .0) (c .before .before .before .before .before .before .before .before .before .before .before .before .before .before .left-list .ensures) (c .before .before .before .before .before .before .before .before .before .before .before .visit .ensures) (c .before .before .before .before .before .before .before .before .before .is-constant2 .result) (c .before .before .before .before .before .before .before .before .before .is-constant2 .ensures) (c .before .before .before .before .before .before .before .right-list .last .0) (c .before .before .before .before .visit2 .last .0) (c .before .before .before .before .before .before .before .right-list .ensures) (c .before .before .before .before .visit2 .ensures) (c .before .node-message .last .0) (c .before .node-message .ensures)
+      running el .done (c .before .before .before .before .before .before .before .before .before .before .before .before .before .before .before .before .is-constant .result) (c .before .before .before .before .before .before .before .before .before .before .before .before .before .before .before .before .is-constant .ensures) (c .before .before .before .before .before .before .before .before .before .before .before .before .before .before .left-list .last .0) (c .before .before .before .before .before .before .before .before .before .before .before .visit .last .0) (c .before .before .before .before .before .before .before .before .before .before .before .before .before .before .left-list .ensures) (c .before .before .before .before .before .before .before .before .before .before .before .visit .ensures) (c .before .before .before .before .before .before .before .before .before .is-constant2 .result) (c .before .before .before .before .before .before .before .before .before .is-constant2 .ensures) (c .before .before .before .before .before .before .before .right-list .last .0) (c .before .before .before .before .visit2 .last .0) (c .before .before .before .before .before .before .before .right-list .ensures) (c .before .before .before .before .visit2 .ensures) (c .before .own-message .last .0) (c .before .own-message .ensures)
 
 pub +visit-spec : {M : Type 1} → statement M
 +visit-spec = close μ-visit λ t. visit-lts.spec (around t) (visit-at t) visit.Post
@@ -317,6 +317,6 @@ pub +visit-spec : {M : Type 1} → statement M
     (visit-right-list-requires t)
     (visit-add-visit t)
     (visit-visit-requires-2 t)
-    (visit-node-message-requires t)
+    (visit-own-message-requires t)
     (visit-same-length-2 t)
     (visit-returns-2 t)

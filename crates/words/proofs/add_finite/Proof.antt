@@ -9,18 +9,15 @@ use mir.Facts.{toZ-ofZ}
 use Rattle.model.specs.Soft.{mark}
 use Rattle.words.specs.Words.{addWord}
 use Rattle.words.proofs.Signed.{fits-word}
-use Rattle.words.proofs.Laws.{addWord-fin}
+use Rattle.words.proofs.Laws.{addWord-fin, not-mark}
 use Rattle.words.proofs.add_finite.Statement.{statement}
 use Rattle.words.proofs.add_finite.Tie as tie
-
-no-mark : (z : ℤ) → natAbs z < mark → z ≡ pos mark → ⊥
-no-mark z h e = let f : natAbs z ≡ mark = ap natAbs e in omega arith
 
 sum-is : (c : tie.Start) → let a = c .args in toZ w32 (ofZ w32 (a .a)) +ℤ toZ w32 (ofZ w32 (a .b)) ≡ addWord (a .a) (a .b)
 sum-is c =
     let a = c .args in
     ap₂ (λ (x y : ℤ). x +ℤ y) (toZ-ofZ (c .fits .a)) (toZ-ofZ (c .fits .b))
-    ∙ sym (addWord-fin (a .a) (a .b) (no-mark (a .a) (c .pre .0)) (no-mark (a .b) (c .pre .1)))
+    ∙ sym (addWord-fin (a .a) (a .b) (not-mark (a .a) (c .pre .0)) (not-mark (a .b) (c .pre .1)))
 
 add-result : tie.Need-add-result
 add-result c = subst (SFits w32) (sym (sum-is c)) (fits-word _ (c .pre .2))

@@ -1,23 +1,59 @@
 -- `words::node_message` meets its contract. The loop's invariant: the first k words of both halves are stored, and nothing else is. Assumes nothing.
-use mathlib.Core.Path.{_≡_, refl, sym, ap, ap₂, _∙_, subst, subst₂}
-use mathlib.Core.Logic.{inl, inr}
+use mathlib.Core.Path.{_≡_, refl, sym, ap₂, _∙_, subst, subst₂}
 use lib.IntN.{pos}
 use Prim.Native.Nat.{ℕ, _+_, _-_, _≤_}
 use native.Mathlib.Omega.{arith}
 use native.Mathlib.Nat.{le-antisymm}
 use lib.ListN.{length, length-set}
-use Rattle.words.specs.Words.{write, Word, Added, boxWord, addWord, boxPlus, plusBox}
+use mir.Val.{toZ, ofZ}
+use mir.Syntax.{w32}
+use Rattle.words.specs.Words.{word, write, Word, Added, boxWord, addWord}
 use Rattle.words.proofs.Signed.{back}
-use Rattle.words.proofs.Store.{store-both, source-both}
+use Rattle.words.proofs.Store.{store-both}
+use Rattle.words.proofs.Steps.{Halves, Sources, sources}
 use borrow.Author.Needs.{needs}
 use Rattle.words.proofs.node_message.Statement.{statement}
 use Rattle.words.proofs.node_message.Tie as tie
 
 abbrev Inv-loop : tie.InvT-loop
-Inv-loop w₀ m x l h y r g k₀ w k = (k ≤ h) × (w ≡ write (write w₀ m k (boxPlus w₀ l (x + h) (l + h))) (m + h) k (plusBox w₀ x l (l + h))) × (length w ≡ length w₀)
+Inv-loop w₀ m x l h y r g k₀ w k = (k ≤ h) × Halves w₀ m x l h k w × (length w ≡ length w₀)
 
 abbrev μ-loop : tie.MeasureT-loop
 μ-loop w₀ m x l h y r g k₀ w k = h - k
+
+-- ---- what a turn reads and finds, by the words at entry
+from : (c : tie.In-loop Inv-loop μ-loop) → let a = c .before .before .args in Sources (a .w .now) (c .before .loop .w) (a .x) (a .l) (a .h) (c .before .loop .k)
+from c =
+    let at-loop = c .before in
+    let start = at-loop .before in
+    let a = start .args in
+    sources (a .w .now) (at-loop .loop .w) (a .m) (a .x) (a .l) (a .h) (at-loop .loop .k) (start .pre .0 .0) (start .pre .0 .1) (at-loop .loop .inv .1) (c .loop-test .taken)
+
+first-is : (c : tie.After-first Inv-loop μ-loop) → let at-loop = c .before .before in let a = at-loop .before .args in
+    toZ w32 (ofZ w32 (word (at-loop .loop .w) (a .x + at-loop .loop .k))) ≡ word (a .w .now) (a .x + at-loop .loop .k)
+first-is c = back (c .first .given) ∙ from (c .before) .list _ (omega arith)
+
+second-is : (c : tie.After-second Inv-loop μ-loop) → let at-loop = c .before .before .before in let a = at-loop .before .args in
+    toZ w32 (ofZ w32 (word (at-loop .loop .w) (a .x + a .h + at-loop .loop .k))) ≡ word (a .w .now) (a .x + a .h + at-loop .loop .k)
+second-is c = back (c .second .given) ∙ from (c .before .before) .list _ (omega arith)
+
+left-is : (c : tie.After-left Inv-loop μ-loop) → let at-loop = c .before .before .before .before in let a = at-loop .before .args in
+    toZ w32 (ofZ w32 (word (at-loop .loop .w) (a .l + at-loop .loop .k))) ≡ word (a .w .now) (a .l + at-loop .loop .k)
+left-is c = back (c .left .given) ∙ from (c .before .before .before) .left
+
+right-is : (c : tie.After-right Inv-loop μ-loop) → let at-loop = c .before .before .before .before .before in let a = at-loop .before .args in
+    toZ w32 (ofZ w32 (word (at-loop .loop .w) (a .l + a .h + at-loop .loop .k))) ≡ word (a .w .now) (a .l + a .h + at-loop .loop .k)
+right-is c = back (c .right .given) ∙ from (c .before .before .before .before) .right
+
+sum-is : (c : tie.After-add-words Inv-loop μ-loop) → let at-loop = c .before .before .before .before .before .before in let a = at-loop .before .args in
+    toZ w32 (ofZ w32 (c .add-words .result)) ≡ addWord (word (a .w .now) (a .x + a .h + at-loop .loop .k)) (word (a .w .now) (a .l + a .h + at-loop .loop .k))
+sum-is c = back (c .add-words .ok) ∙ c .add-words .ensures ∙ ap₂ addWord (second-is (c .before .before .before)) (right-is (c .before))
+
+box-is : (c : tie.After-box-words2 Inv-loop μ-loop) → let at-loop = c .before .before .before .before .before .before .before .before in let a = at-loop .before .args in
+    toZ w32 (ofZ w32 (c .box-words2 .result)) ≡ boxWord (word (a .w .now) (a .x + at-loop .loop .k)) (word (a .w .now) (a .l + at-loop .loop .k))
+box-is c =
+    back (c .box-words2 .ok) ∙ c .box-words2 .ensures
+    ∙ ap₂ boxWord (first-is (c .before .before .before .before .before .before)) (left-is (c .before .before .before .before))
 
 add-y : tie.Need-add-y Inv-loop μ-loop
 add-y c = search needs
@@ -70,31 +106,16 @@ slice-copy-out-right c = search needs
 add-words-requires : tie.Need-add-words-requires Inv-loop μ-loop
 add-words-requires c κs =
     let turn = c .before .before .before .before in
-    let at-loop = turn .before in
-    let start = at-loop .before in
-    let a = start .args in
-    let k = at-loop .loop .k in
-    let lt = turn .loop-test .taken in
-    let room = start .pre .0 in
-    let at-y = source-both (pos 0) (a .w .now) (at-loop .loop .w) (a .m) (a .h) k (boxPlus (a .w .now) (a .l) (a .x + a .h) (a .l + a .h)) (plusBox (a .w .now) (a .x) (a .l) (a .l + a .h)) (a .x + a .h + k) (at-loop .loop .inv .1) (at-loop .loop .inv .0) (inr (omega arith)) in
-    let at-r = source-both (pos 0) (a .w .now) (at-loop .loop .w) (a .m) (a .h) k (boxPlus (a .w .now) (a .l) (a .x + a .h) (a .l + a .h)) (plusBox (a .w .now) (a .x) (a .l) (a .l + a .h)) (a .l + a .h + k) (at-loop .loop .inv .1) (at-loop .loop .inv .0) (inl (omega arith)) in
-    subst₂ Added (sym (back (c .before .before .second .given) ∙ at-y)) (sym (back (c .right .given) ∙ at-r)) (start .pre .1 .2 k lt)
+    let start = turn .before .before in
+    subst₂ Added (sym (second-is (c .before .before))) (sym (right-is c)) (start .pre .1 .2 (turn .before .loop .k) (turn .loop-test .taken))
 
 box-words-requires : tie.Need-box-words-requires Inv-loop μ-loop
 box-words-requires c κs =
     let turn = c .before .before .before .before .before in
-    let at-loop = turn .before in
-    let start = at-loop .before in
-    let a = start .args in
-    let k = at-loop .loop .k in
+    let start = turn .before .before in
+    let k = turn .before .loop .k in
     let lt = turn .loop-test .taken in
-    let room = start .pre .0 in
-    let at-l = source-both (pos 0) (a .w .now) (at-loop .loop .w) (a .m) (a .h) k (boxPlus (a .w .now) (a .l) (a .x + a .h) (a .l + a .h)) (plusBox (a .w .now) (a .x) (a .l) (a .l + a .h)) (a .l + k) (at-loop .loop .inv .1) (at-loop .loop .inv .0) (inl (omega arith)) in
-    let at-y = source-both (pos 0) (a .w .now) (at-loop .loop .w) (a .m) (a .h) k (boxPlus (a .w .now) (a .l) (a .x + a .h) (a .l + a .h)) (plusBox (a .w .now) (a .x) (a .l) (a .l + a .h)) (a .x + a .h + k) (at-loop .loop .inv .1) (at-loop .loop .inv .0) (inr (omega arith)) in
-    let at-r = source-both (pos 0) (a .w .now) (at-loop .loop .w) (a .m) (a .h) k (boxPlus (a .w .now) (a .l) (a .x + a .h) (a .l + a .h)) (plusBox (a .w .now) (a .x) (a .l) (a .l + a .h)) (a .l + a .h + k) (at-loop .loop .inv .1) (at-loop .loop .inv .0) (inl (omega arith)) in (
-      subst Word (sym (back (c .before .before .left .given) ∙ at-l)) (start .pre .1 .1 k lt),
-      subst Word (sym (back (c .add-words .ok) ∙ c .add-words .ensures ∙ ap₂ addWord (back (c .before .before .before .second .given) ∙ at-y) (back (c .before .right .given) ∙ at-r))) (start .pre .1 .2 k lt .1),
-    )
+    (subst Word (sym (left-is (c .before .before))) (start .pre .1 .1 k lt), subst Word (sym (sum-is c)) (start .pre .1 .2 k lt .1))
 
 add-w : tie.Need-add-w Inv-loop μ-loop
 add-w c = search needs
@@ -108,29 +129,16 @@ slice-set-from-w c = search needs
 box-words-requires-2 : tie.Need-box-words-requires-2 Inv-loop μ-loop
 box-words-requires-2 c κs =
     let turn = c .before .before .before .before .before .before in
-    let at-loop = turn .before in
-    let start = at-loop .before in
-    let a = start .args in
-    let k = at-loop .loop .k in
+    let start = turn .before .before in
+    let k = turn .before .loop .k in
     let lt = turn .loop-test .taken in
-    let room = start .pre .0 in
-    let at-x = source-both (pos 0) (a .w .now) (at-loop .loop .w) (a .m) (a .h) k (boxPlus (a .w .now) (a .l) (a .x + a .h) (a .l + a .h)) (plusBox (a .w .now) (a .x) (a .l) (a .l + a .h)) (a .x + k) (at-loop .loop .inv .1) (at-loop .loop .inv .0) (inr (omega arith)) in
-    let at-l = source-both (pos 0) (a .w .now) (at-loop .loop .w) (a .m) (a .h) k (boxPlus (a .w .now) (a .l) (a .x + a .h) (a .l + a .h)) (plusBox (a .w .now) (a .x) (a .l) (a .l + a .h)) (a .l + k) (at-loop .loop .inv .1) (at-loop .loop .inv .0) (inl (omega arith)) in
-    (subst Word (sym (back (c .before .before .before .before .before .first .given) ∙ at-x)) (start .pre .1 .0 k lt), subst Word (sym (back (c .before .before .before .left .given) ∙ at-l)) (start .pre .1 .1 k lt))
+    (subst Word (sym (first-is (c .before .before .before .before .before))) (start .pre .1 .0 k lt), subst Word (sym (left-is (c .before .before .before))) (start .pre .1 .1 k lt))
 
 add-words-requires-2 : tie.Need-add-words-requires-2 Inv-loop μ-loop
 add-words-requires-2 c κs =
     let turn = c .before .before .before .before .before .before .before in
-    let at-loop = turn .before in
-    let start = at-loop .before in
-    let a = start .args in
-    let k = at-loop .loop .k in
-    let lt = turn .loop-test .taken in
-    let room = start .pre .0 in
-    let at-x = source-both (pos 0) (a .w .now) (at-loop .loop .w) (a .m) (a .h) k (boxPlus (a .w .now) (a .l) (a .x + a .h) (a .l + a .h)) (plusBox (a .w .now) (a .x) (a .l) (a .l + a .h)) (a .x + k) (at-loop .loop .inv .1) (at-loop .loop .inv .0) (inr (omega arith)) in
-    let at-l = source-both (pos 0) (a .w .now) (at-loop .loop .w) (a .m) (a .h) k (boxPlus (a .w .now) (a .l) (a .x + a .h) (a .l + a .h)) (plusBox (a .w .now) (a .x) (a .l) (a .l + a .h)) (a .l + k) (at-loop .loop .inv .1) (at-loop .loop .inv .0) (inl (omega arith)) in
-    let at-r = source-both (pos 0) (a .w .now) (at-loop .loop .w) (a .m) (a .h) k (boxPlus (a .w .now) (a .l) (a .x + a .h) (a .l + a .h)) (plusBox (a .w .now) (a .x) (a .l) (a .l + a .h)) (a .l + a .h + k) (at-loop .loop .inv .1) (at-loop .loop .inv .0) (inl (omega arith)) in
-    subst₂ Added (sym (back (c .box-words2 .ok) ∙ c .box-words2 .ensures ∙ ap₂ boxWord (back (c .before .before .before .before .before .before .first .given) ∙ at-x) (back (c .before .before .before .before .left .given) ∙ at-l))) (sym (back (c .before .before .before .right .given) ∙ at-r)) (start .pre .1 .3 k lt)
+    let start = turn .before .before in
+    subst₂ Added (sym (box-is c)) (sym (right-is (c .before .before .before))) (start .pre .1 .3 (turn .before .loop .k) (turn .loop-test .taken))
 
 add-t16 : tie.Need-add-t16 Inv-loop μ-loop
 add-t16 c = search needs
@@ -155,19 +163,13 @@ loop-again : tie.Need-loop-again Inv-loop μ-loop
 loop-again c =
     let turn = c .before .before .before .before .before .before .before .before in
     let at-loop = turn .before in
-    let start = at-loop .before in
-    let a = start .args in
-    let k = at-loop .loop .k in
+    let a = at-loop .before .args in
     let lt = turn .loop-test .taken in
-    let room = start .pre .0 in
-    let at-x = source-both (pos 0) (a .w .now) (at-loop .loop .w) (a .m) (a .h) k (boxPlus (a .w .now) (a .l) (a .x + a .h) (a .l + a .h)) (plusBox (a .w .now) (a .x) (a .l) (a .l + a .h)) (a .x + k) (at-loop .loop .inv .1) (at-loop .loop .inv .0) (inr (omega arith)) in
-    let at-y = source-both (pos 0) (a .w .now) (at-loop .loop .w) (a .m) (a .h) k (boxPlus (a .w .now) (a .l) (a .x + a .h) (a .l + a .h)) (plusBox (a .w .now) (a .x) (a .l) (a .l + a .h)) (a .x + a .h + k) (at-loop .loop .inv .1) (at-loop .loop .inv .0) (inr (omega arith)) in
-    let at-l = source-both (pos 0) (a .w .now) (at-loop .loop .w) (a .m) (a .h) k (boxPlus (a .w .now) (a .l) (a .x + a .h) (a .l + a .h)) (plusBox (a .w .now) (a .x) (a .l) (a .l + a .h)) (a .l + k) (at-loop .loop .inv .1) (at-loop .loop .inv .0) (inl (omega arith)) in
-    let at-r = source-both (pos 0) (a .w .now) (at-loop .loop .w) (a .m) (a .h) k (boxPlus (a .w .now) (a .l) (a .x + a .h) (a .l + a .h)) (plusBox (a .w .now) (a .x) (a .l) (a .l + a .h)) (a .l + a .h + k) (at-loop .loop .inv .1) (at-loop .loop .inv .0) (inl (omega arith)) in (
+    let sum = c .before .before .before in (
       omega arith,
-      store-both (pos 0) (a .w .now) (at-loop .loop .w) (a .m) (a .h) k _ _ (boxPlus (a .w .now) (a .l) (a .x + a .h) (a .l + a .h)) (plusBox (a .w .now) (a .x) (a .l) (a .l + a .h)) lt (at-loop .loop .inv .1)
-          (back (c .before .before .box-words .ok) ∙ c .before .before .box-words .ensures ∙ ap₂ boxWord (back (c .before .before .before .before .before .left .given) ∙ at-l) (back (c .before .before .before .add-words .ok) ∙ c .before .before .before .add-words .ensures ∙ ap₂ addWord (back (c .before .before .before .before .before .before .second .given) ∙ at-y) (back (c .before .before .before .before .right .given) ∙ at-r)))
-          (back (c .add-words2 .ok) ∙ c .add-words2 .ensures ∙ ap₂ addWord (back (c .before .box-words2 .ok) ∙ c .before .box-words2 .ensures ∙ ap₂ boxWord (back (c .before .before .before .before .before .before .before .first .given) ∙ at-x) (back (c .before .before .before .before .before .left .given) ∙ at-l)) (back (c .before .before .before .before .right .given) ∙ at-r)),
+      store-both (pos 0) (a .w .now) (at-loop .loop .w) (a .m) (a .h) (at-loop .loop .k) _ _ _ _ lt (at-loop .loop .inv .1)
+          (back (c .before .before .box-words .ok) ∙ c .before .before .box-words .ensures ∙ ap₂ boxWord (left-is (sum .before .before)) (sum-is sum))
+          (back (c .add-words2 .ok) ∙ c .add-words2 .ensures ∙ ap₂ addWord (box-is (c .before)) (right-is (sum .before))),
       simp length-set (at-loop .loop .inv .2),
     )
 
@@ -178,8 +180,7 @@ returns : tie.Need-returns Inv-loop μ-loop
 returns c =
     let at-loop = c .before in
     let a = at-loop .before .args in
-    at-loop .loop .inv .1
-    ∙ ap (λ (n : ℕ). write (write (a .w .now) (a .m) n (boxPlus (a .w .now) (a .l) (a .x + a .h) (a .l + a .h))) (a .m + a .h) n (plusBox (a .w .now) (a .x) (a .l) (a .l + a .h))) (le-antisymm (at-loop .loop .inv .0) (c .loop-test .left))
+    subst (λ (n : ℕ). Halves (a .w .now) (a .m) (a .x) (a .l) (a .h) n (at-loop .loop .w)) (le-antisymm (at-loop .loop .inv .0) (c .loop-test .left)) (at-loop .loop .inv .1)
 
 pub node-message-spec : {M : Type 1} → statement M
 node-message-spec =

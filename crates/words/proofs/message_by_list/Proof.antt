@@ -1,0 +1,228 @@
+-- `words::message_by_list` meets its contract. The loop's invariant is that of `node_message`; the box of the second half is what the list has
+-- beyond what was added to it. Assumes nothing.
+use mathlib.Core.Path.{_≡_, refl, sym, ap₂, _∙_, subst, subst₂}
+use lib.IntN.{ℤ, pos, _-ℤ_}
+use Prim.Native.Nat.{ℕ, _+_, _-_, _≤_}
+use native.Mathlib.Omega.{arith}
+use native.Mathlib.Nat.{le-antisymm}
+use lib.ListN.{length, length-set}
+use mir.Val.{toZ, ofZ}
+use mir.Syntax.{w32}
+use Rattle.words.specs.Words.{word, write, Word, Added, boxWord, addWord, plusBox}
+use Rattle.words.proofs.Signed.{back}
+use Rattle.words.proofs.Laws.{add-less}
+use Rattle.words.proofs.Store.{store-both}
+use Rattle.words.proofs.Steps.{Halves, Sources, sources}
+use borrow.Author.Needs.{needs}
+use Rattle.words.proofs.message_by_list.Statement.{statement}
+use Rattle.words.proofs.message_by_list.Tie as tie
+
+abbrev Inv-loop : tie.InvT-loop
+Inv-loop w₀ m x l c h y r g k₀ w k = (k ≤ h) × Halves w₀ m x l h k w × (length w ≡ length w₀)
+
+abbrev μ-loop : tie.MeasureT-loop
+μ-loop w₀ m x l c h y r g k₀ w k = h - k
+
+-- ---- what a turn reads and finds, by the words at entry
+from : (c : tie.In-loop Inv-loop μ-loop) → let a = c .before .before .args in Sources (a .w .now) (c .before .loop .w) (a .x) (a .l) (a .h) (c .before .loop .k)
+from c =
+    let at-loop = c .before in
+    let start = at-loop .before in
+    let a = start .args in
+    sources (a .w .now) (at-loop .loop .w) (a .m) (a .x) (a .l) (a .h) (at-loop .loop .k) (start .pre .0 .0) (start .pre .0 .1) (at-loop .loop .inv .1) (c .loop-test .taken)
+
+list-is : (c : tie.After-list Inv-loop μ-loop) → let at-loop = c .before .before in let a = at-loop .before .args in
+    toZ w32 (ofZ w32 (word (at-loop .loop .w) (a .c + at-loop .loop .k))) ≡ plusBox (a .w .now) (a .x) (a .l) (a .x + a .h) (at-loop .loop .k)
+list-is c =
+    let start = c .before .before .before in
+    back (c .list .given) ∙ from (c .before) .list _ (omega (arith, start .pre .0)) ∙ start .pre .1 .1 .1 _ (c .before .loop-test .taken)
+
+high-is : (c : tie.After-high Inv-loop μ-loop) → let at-loop = c .before .before .before in let a = at-loop .before .args in
+    toZ w32 (ofZ w32 (word (at-loop .loop .w) (a .x + a .h + at-loop .loop .k))) ≡ word (a .w .now) (a .x + a .h + at-loop .loop .k)
+high-is c = back (c .high .given) ∙ from (c .before .before) .list _ (omega arith)
+
+left-is : (c : tie.After-left Inv-loop μ-loop) → let at-loop = c .before .before .before .before in let a = at-loop .before .args in
+    toZ w32 (ofZ w32 (word (at-loop .loop .w) (a .l + at-loop .loop .k))) ≡ word (a .w .now) (a .l + at-loop .loop .k)
+left-is c = back (c .left .given) ∙ from (c .before .before .before) .left
+
+right-is : (c : tie.After-right Inv-loop μ-loop) → let at-loop = c .before .before .before .before .before in let a = at-loop .before .args in
+    toZ w32 (ofZ w32 (word (at-loop .loop .w) (a .l + a .h + at-loop .loop .k))) ≡ word (a .w .now) (a .l + a .h + at-loop .loop .k)
+right-is c = back (c .right .given) ∙ from (c .before .before .before .before) .right
+
+sum-is : (c : tie.After-add-words Inv-loop μ-loop) → let at-loop = c .before .before .before .before .before .before in let a = at-loop .before .args in
+    toZ w32 (ofZ w32 (c .add-words .result)) ≡ addWord (word (a .w .now) (a .x + a .h + at-loop .loop .k)) (word (a .w .now) (a .l + a .h + at-loop .loop .k))
+sum-is c = back (c .add-words .ok) ∙ c .add-words .ensures ∙ ap₂ addWord (high-is (c .before .before .before)) (right-is (c .before))
+
+box-is : (c : tie.After-high Inv-loop μ-loop) → let at-loop = c .before .before .before in let a = at-loop .before .args in
+    toZ w32 (ofZ w32 (word (at-loop .loop .w) (a .c + at-loop .loop .k))) -ℤ toZ w32 (ofZ w32 (word (at-loop .loop .w) (a .x + a .h + at-loop .loop .k)))
+    ≡ boxWord (word (a .w .now) (a .x + at-loop .loop .k)) (word (a .w .now) (a .l + at-loop .loop .k))
+box-is c =
+    let fin = c .before .before .before .before .pre .1 .1 .0 _ (c .before .before .loop-test .taken) in
+    ap₂ (λ (p q : ℤ). p -ℤ q) (list-is (c .before)) (high-is c) ∙ add-less _ _ (fin .0) (fin .1)
+
+add-y : tie.Need-add-y Inv-loop μ-loop
+add-y c = search needs
+
+add-r : tie.Need-add-r Inv-loop μ-loop
+add-r c = search needs
+
+add-g : tie.Need-add-g Inv-loop μ-loop
+add-g c = search needs
+
+loop-holds : tie.Need-loop-holds Inv-loop μ-loop
+loop-holds c = (omega arith, unfold write in refl, refl)
+
+add-list : tie.Need-add-list Inv-loop μ-loop
+add-list c = search needs
+
+mul-list : tie.Need-mul-list Inv-loop μ-loop
+mul-list c = search needs
+
+slice-copy-out-list : tie.Need-slice-copy-out-list Inv-loop μ-loop
+slice-copy-out-list c = search needs
+
+add-high : tie.Need-add-high Inv-loop μ-loop
+add-high c = search needs
+
+mul-high : tie.Need-mul-high Inv-loop μ-loop
+mul-high c = search needs
+
+slice-copy-out-high : tie.Need-slice-copy-out-high Inv-loop μ-loop
+slice-copy-out-high c = search needs
+
+add-left : tie.Need-add-left Inv-loop μ-loop
+add-left c = search needs
+
+mul-left : tie.Need-mul-left Inv-loop μ-loop
+mul-left c = search needs
+
+slice-copy-out-left : tie.Need-slice-copy-out-left Inv-loop μ-loop
+slice-copy-out-left c = search needs
+
+add-right : tie.Need-add-right Inv-loop μ-loop
+add-right c = search needs
+
+mul-right : tie.Need-mul-right Inv-loop μ-loop
+mul-right c = search needs
+
+slice-copy-out-right : tie.Need-slice-copy-out-right Inv-loop μ-loop
+slice-copy-out-right c = search needs
+
+add-words-requires : tie.Need-add-words-requires Inv-loop μ-loop
+add-words-requires c κs =
+    let turn = c .before .before .before .before in
+    let start = turn .before .before in
+    subst₂ Added (sym (high-is (c .before .before))) (sym (right-is c)) (start .pre .1 .0 .1 (turn .before .loop .k) (turn .loop-test .taken))
+
+box-words-requires : tie.Need-box-words-requires Inv-loop μ-loop
+box-words-requires c κs =
+    let turn = c .before .before .before .before .before in
+    let start = turn .before .before in
+    let k = turn .before .loop .k in
+    let lt = turn .loop-test .taken in
+    (subst Word (sym (left-is (c .before .before))) (start .pre .1 .0 .0 k lt), subst Word (sym (sum-is c)) (start .pre .1 .0 .1 k lt .1))
+
+add-w : tie.Need-add-w Inv-loop μ-loop
+add-w c = search needs
+
+mul-w : tie.Need-mul-w Inv-loop μ-loop
+mul-w c = search needs
+
+slice-set-from-w : tie.Need-slice-set-from-w Inv-loop μ-loop
+slice-set-from-w c = search needs
+
+sub-words-requires : tie.Need-sub-words-requires Inv-loop μ-loop
+sub-words-requires c κs =
+    let turn = c .before .before .before .before .before .before in
+    let fin = turn .before .before .pre .1 .1 .0 _ (turn .loop-test .taken) in
+    subst Word (sym (box-is (c .before .before .before .before))) (omega (arith, fin .0))
+
+boxed-is : (c : tie.After-sub-words Inv-loop μ-loop) → let at-loop = c .before .before .before .before .before .before .before .before in let a = at-loop .before .args in
+    toZ w32 (ofZ w32 (c .sub-words .result)) ≡ boxWord (word (a .w .now) (a .x + at-loop .loop .k)) (word (a .w .now) (a .l + at-loop .loop .k))
+boxed-is c = back (c .sub-words .ok) ∙ c .sub-words .ensures ∙ box-is (c .before .before .before .before .before)
+
+add-words-requires-2 : tie.Need-add-words-requires-2 Inv-loop μ-loop
+add-words-requires-2 c κs =
+    let turn = c .before .before .before .before .before .before .before in
+    let start = turn .before .before in
+    subst₂ Added (sym (boxed-is c)) (sym (right-is (c .before .before .before))) (start .pre .1 .0 .2 (turn .before .loop .k) (turn .loop-test .taken))
+
+add-t17 : tie.Need-add-t17 Inv-loop μ-loop
+add-t17 c = search needs
+
+mul-t16 : tie.Need-mul-t16 Inv-loop μ-loop
+mul-t16 c = search needs
+
+slice-set-from-w-2 : tie.Need-slice-set-from-w-2 Inv-loop μ-loop
+slice-set-from-w-2 c =
+    let at-loop = c .before .before .before .before .before .before .before .before .before in
+    let room = at-loop .before .pre .0 in
+    let inv = at-loop .loop .inv in
+    simp length-set (omega arith)
+
+add-k : tie.Need-add-k Inv-loop μ-loop
+add-k c = search needs
+
+loop-less : tie.Need-loop-less Inv-loop μ-loop
+loop-less c = search needs
+
+loop-again : tie.Need-loop-again Inv-loop μ-loop
+loop-again c =
+    let turn = c .before .before .before .before .before .before .before .before in
+    let at-loop = turn .before in
+    let a = at-loop .before .args in
+    let lt = turn .loop-test .taken in
+    let sum = c .before .before .before in (
+      omega arith,
+      store-both (pos 0) (a .w .now) (at-loop .loop .w) (a .m) (a .h) (at-loop .loop .k) _ _ _ _ lt (at-loop .loop .inv .1)
+          (back (c .before .before .box-words .ok) ∙ c .before .before .box-words .ensures ∙ ap₂ boxWord (left-is (sum .before .before)) (sum-is sum))
+          (back (c .add-words2 .ok) ∙ c .add-words2 .ensures ∙ ap₂ addWord (boxed-is (c .before)) (right-is (sum .before))),
+      simp length-set (at-loop .loop .inv .2),
+    )
+
+same-length : tie.Need-same-length Inv-loop μ-loop
+same-length c = c .before .loop .inv .2
+
+returns : tie.Need-returns Inv-loop μ-loop
+returns c =
+    let at-loop = c .before in
+    let a = at-loop .before .args in
+    subst (λ (n : ℕ). Halves (a .w .now) (a .m) (a .x) (a .l) (a .h) n (at-loop .loop .w)) (le-antisymm (at-loop .loop .inv .0) (c .loop-test .left)) (at-loop .loop .inv .1)
+
+pub message-by-list-spec : {M : Type 1} → statement M
+message-by-list-spec =
+    tie.close
+    (tie.spec
+    Inv-loop
+    μ-loop
+    add-y
+    add-r
+    add-g
+    loop-holds
+    add-list
+    mul-list
+    slice-copy-out-list
+    add-high
+    mul-high
+    slice-copy-out-high
+    add-left
+    mul-left
+    slice-copy-out-left
+    add-right
+    mul-right
+    slice-copy-out-right
+    add-words-requires
+    box-words-requires
+    add-w
+    mul-w
+    slice-set-from-w
+    sub-words-requires
+    add-words-requires-2
+    add-t17
+    mul-t16
+    slice-set-from-w-2
+    add-k
+    loop-less
+    loop-again
+    same-length
+    returns)
