@@ -120,7 +120,7 @@ fn place_bits(mask: &[u8], payload: &[u8], word: &mut [u8])
     while i < mask.len() {
         let byte = mask[i];
         word[i] = bit_for(byte, payload, next);
-        next += inputs::unfrozen_bit(byte);
+        next += inputs::unfrozen_bit(byte) as usize;
         i += 1;
     }
 }

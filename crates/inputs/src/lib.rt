@@ -1,7 +1,8 @@
 // Tests of inputs that several calls share.
 ghost use mathlib.Core.Path.{_≡_};
 ghost use mathlib.Core.Bool.{_&&_};
-ghost use Prim.Native.Nat.{max};
+ghost use Prim.Native.Nat.{_≤_, max};
+ghost use lib.ListN.{length};
 ghost use Rattle.model.specs.Lists.{atMost, bit};
 ghost use Rattle.model.specs.Encoding.{maxMask, unfrozen, isUnfrozen};
 ghost use Rattle.model.specs.Refusals.{exponent};
@@ -60,21 +61,22 @@ pub fn mask_bytes(mask: &[u8]) -> bool
 }
 
 // 1 for an unfrozen position, 0 for a frozen one.
-pub fn unfrozen_bit(byte: u8) -> usize
+pub fn unfrozen_bit(byte: u8) -> u16
     ensures { λ r. ⌜ r ≡ bit (isUnfrozen byte) ⌝ }
 {
     if byte == 0 { 1 } else { 0 }
 }
 
-// K, the number of unfrozen positions of a mask.
+// K, the number of unfrozen positions of a mask. It is summed in 16 bits, which compiles to eight sums at a time.
 pub fn unfrozen_of(mask: &[u8]) -> usize
+    requires { ⌜ length (now mask) ≤ 1024 ⌝ }
     ensures { λ r. ⌜ r ≡ unfrozen (now (mask .entry)) ⌝ }
 {
-    let mut k: usize = 0;
+    let mut k: u16 = 0;
     let mut i = 0;
     while i < mask.len() {
         k += unfrozen_bit(mask[i]);
         i += 1;
     }
-    k
+    k as usize
 }

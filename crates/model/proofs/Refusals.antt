@@ -9,6 +9,7 @@ use borrow.Author.Tests.{eqb-true}
 use lib.Dec.{T, eqb, leb, leb→le}
 use lib.IntN.{ℤ, pos, natAbs}
 use lib.ListN.{getD, List·getD-map}
+use lib.Pow.{pow-mono}
 use Rattle.model.specs.Soft.{finite}
 use Rattle.model.specs.Bounds.{SmallAll}
 use Rattle.model.specs.Refusals.{exponent, exponentTo, llrsInRange}
@@ -30,6 +31,13 @@ exponent-power-to (suc t) N h = go (eqb N (2 ^ suc t)) refl h (exponent-power-to
 -- an allowed N is 2 ^ n with n at most 10
 pub exponent-power : (N : ℕ) → (exponent N ≡ 0 → ⊥) → (N ≡ 2 ^ exponent N) × (exponent N ≤ 10)
 exponent-power N h = exponent-power-to 10 N h
+
+-- so it is at most 1024
+pub length-small : (N : ℕ) → (exponent N ≡ 0 → ⊥) → N ≤ 1024
+length-small N h =
+    let p = exponent-power N h in
+    let m : 2 ^ exponent N ≤ 1024 = pow-mono (p .1) in
+    omega (arith, p .0)
 
 -- LLRs within ±32767 are small incoming values
 pub llrs-small : (n : ℕ) (llrs : List ℤ) → T (llrsInRange llrs) → SmallAll n 32767 (map finite llrs)

@@ -2,18 +2,17 @@
 use mathlib.Core.Path.{_≡_, refl, sym, subst}
 use mathlib.Core.Bool.{Bool, true, false, not}
 use mathlib.Core.List.{List, _∷_}
-use Prim.Native.Nat.{ℕ, _^_, _≤_}
+use Prim.Native.Nat.{ℕ}
 use native.Mathlib.Omega.{arith}
 use lib.Dec.{T, eqb, leb}
 use lib.IntN.{ℤ}
 use lib.ListN.{length, take, drop}
-use lib.Pow.{pow-mono}
 use lib.Seq.{take-at}
 use borrow.Author.Tests.{eq-eqb, eqb-true, leb-true}
 use Rattle.model.specs.Lists.{atMost, over}
 use Rattle.model.specs.Encoding.{maxMask}
 use Rattle.model.specs.Refusals.{Test, test, refusal, exponent, maxSweeps, llrsInRange}
-use Rattle.model.proofs.Refusals.{exponent-power}
+use Rattle.model.proofs.Refusals.{length-small}
 use Rattle.reader.specs.Grammar.{Reading, malformed, reading}
 use Rattle.reader.specs.Answers.{maskOf, llrsOf, count, sweepsOf, lineNumber, lineSize, lineSweeps, lineMask, lineLlrs}
 use Rattle.reader.specs.Steps.{Fit}
@@ -24,12 +23,6 @@ passes : (number : ℕ) (p : Bool) (ts : List Test) → (number ≡ 0 → ⊥) �
 unfolding refusal
 passes number true ts h e = (refl, e)
 passes number false ts h e = absurd (h e)
-
-power-small : (N : ℕ) → (exponent N ≡ 0 → ⊥) → N ≤ 1024
-power-small N h =
-    let p = exponent-power N h in
-    let m : 2 ^ exponent N ≤ 1024 = pow-mono (p .1) in
-    omega (arith, p .0)
 
 pub line-accepted : (line : Reading) → lineNumber line ≡ 0 → Fit (maskOf line) (sweepsOf line) (llrsOf line)
 unfolding lineNumber
@@ -44,7 +37,7 @@ line-accepted (reading mask sweeps llrs) e =
     let h : exponent (length mask) ≡ 0 → ⊥ = not-zero (exponent (length mask)) (a .0) in
     record {
       allowed = h;
-      small = power-small (length mask) h;
+      small = length-small (length mask) h;
       bits = b .0;
       same = eqb-true (length llrs) (length mask) (c .0);
       some = leb-true 1 (count sweeps) (g .0);

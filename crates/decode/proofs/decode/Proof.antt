@@ -33,7 +33,7 @@ returns c =
     (refused-answer mask plan (a .sweeps) llrs soft hard payload work (tests .result .number) h e _ _ _ (c .answer .ensures .0) (c .answer .ensures .1) (c .answer .ensures .2), refused-written mask plan (a .sweeps) llrs soft hard payload work (tests .result .number) h e)
 
 unfrozen-of-requires : tie.Need-unfrozen-of-requires
-unfrozen-of-requires c κs = search needs
+unfrozen-of-requires c κs = mask-few (c .before .before .input-tests .ensures .passed (c .if1 .left))
 
 room-tests-requires : tie.Need-room-tests-requires
 room-tests-requires c κs =

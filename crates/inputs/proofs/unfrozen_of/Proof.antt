@@ -46,6 +46,9 @@ loop-again c =
           ∙ ap (λ (b : ℕ). l .loop .k + b + unfrozen (drop (l .loop .i + 1) mask)) (sym (c .unfrozen-bit .ensures)),
     )
 
+cast-result : tie.Need-cast-result Inv-loop μ-loop
+cast-result c = search needs
+
 returns : tie.Need-returns Inv-loop μ-loop
 returns c =
     let l = c .before in
@@ -55,4 +58,4 @@ returns c =
 pub unfrozen-of-spec : {M : Type 1} → statement M
 unfrozen-of-spec =
     tie.close
-    (tie.spec Inv-loop μ-loop loop-holds shared-slice-read-unfrozen-bit unfrozen-bit-requires add-k add-i loop-less loop-again returns)
+    (tie.spec Inv-loop μ-loop loop-holds shared-slice-read-unfrozen-bit unfrozen-bit-requires add-k add-i loop-less loop-again cast-result returns)
