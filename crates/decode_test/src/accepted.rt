@@ -153,40 +153,56 @@ fn expect(
     read_word(mask, hard, c.stage, payload)
 }
 
-fn answer_right(answer: Decoded, check: u8, sweeps: usize, cycles: u32) -> bool {
-    if answer.number != 0 {
+// Whether an answer is the wanted one; that has the cycles of one sweep.
+fn answer_right(answer: Decoded, want: Decoded, sweeps: usize) -> bool {
+    if answer.number != want.number {
         return false;
     }
-    if answer.check != check {
+    if answer.check != want.check {
         return false;
     }
-    is_product(answer.cycles, sweeps, cycles)
+    is_product(answer.cycles, sweeps, want.cycles)
 }
 
-// The arrays are handed on whole, so that their lengths are known.
-fn same_bits(
-    hard: &[u8; 1032],
-    want_hard: &[u8; 1032],
-    payload: &[u8; 1032],
-    want_payload: &[u8; 1032],
+// Whether a decode over drawn content answers and leaves what is wanted.
+fn answer_same(
+    c: Case,
+    mask: &[u8],
+    plan: &[u8],
+    llrs: &[i16],
+    want: Decoded,
+    want_soft: &[i32],
+    want_hard: &[u8],
+    want_payload: &[u8],
+    want_work: &[i32],
 ) -> bool {
-    both(
-        check::same(hard, want_hard),
-        check::same(payload, want_payload),
-    )
-}
-
-fn same_values(
-    soft: &[i32; 1032],
-    want_soft: &[i32; 1032],
-    work: &[i32; 13320],
-    want_work: &[i32; 13320],
-    words: usize,
-) -> bool {
-    both(
-        same_words(soft, want_soft, 1032),
-        same_words(work, want_work, words),
-    )
+    let words = words_for(c.stage) + 8;
+    let k = unfrozen(mask, length_of(c.stage));
+    let mut soft = [0i32; 1032];
+    let mut hard = [0u8; 1032];
+    let mut payload = [0u8; 1032];
+    let mut work = [0i32; 13320];
+    draw_outputs(&mut soft, &mut hard, &mut payload, &mut work, words, c.seed);
+    let lengths = accepted_lengths(c.stage, c.sweeps, k, next(c.seed));
+    let answer = decode_front(
+        lengths,
+        mask,
+        plan,
+        llrs,
+        &mut soft,
+        &mut hard,
+        &mut payload,
+        &mut work,
+    );
+    let bits = both(
+        check::same(&hard, want_hard),
+        check::same(&payload, want_payload),
+    );
+    let values = both(
+        same_words(&soft, want_soft, 1032),
+        same_words(&work, want_work, words),
+    );
+    both(both(bits, values), answer_right(answer, want, c.sweeps))
 }
 
 // Whether a decode writes what the reference gives, answers the model's cycles, clears its workspace and leaves every tail.
@@ -198,43 +214,25 @@ fn decode_right(
     llrs: &[i16],
     values: &[u64],
 ) -> bool {
-    let words = words_for(c.stage) + 8;
     let mut soft = [0i32; 1032];
     let mut hard = [0u8; 1032];
     let mut payload = [0u8; 1032];
     let mut work = [0i32; 13320];
-    let mut want_soft = [0i32; 1032];
-    let mut want_hard = [0u8; 1032];
-    let mut want_payload = [0u8; 1032];
-    let mut want_work = [0i32; 13320];
     let check = expect(
         c,
         mask,
         values,
-        &mut want_soft,
-        &mut want_hard,
-        &mut want_payload,
-        &mut want_work,
-    );
-    draw_outputs(&mut soft, &mut hard, &mut payload, &mut work, words, c.seed);
-    let k = unfrozen(mask, length_of(c.stage));
-    let answer = decode_front(
-        accepted_lengths(c.stage, c.sweeps, k, next(c.seed)),
-        mask,
-        plan,
-        llrs,
         &mut soft,
         &mut hard,
         &mut payload,
         &mut work,
     );
-    if !answer_right(answer, check, c.sweeps, cycles) {
-        return false;
-    }
-    both(
-        same_bits(&hard, &want_hard, &payload, &want_payload),
-        same_values(&soft, &want_soft, &work, &want_work, words),
-    )
+    let want = Decoded {
+        number: 0,
+        cycles,
+        check,
+    };
+    answer_same(c, mask, plan, llrs, want, &soft, &hard, &payload, &work)
 }
 
 // Planner, check and decoder on one case.

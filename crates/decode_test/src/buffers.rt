@@ -13,6 +13,10 @@ pub fn set_byte(s: &mut [u8], i: usize, b: u8) {
     }
 }
 
+fn word_at(s: &[i32], i: usize) -> i32 {
+    if i < s.len() { s[i] } else { 0 }
+}
+
 pub fn set_word(s: &mut [i32], i: usize, w: i32) {
     if i < s.len() {
         s[i] = w;
@@ -95,6 +99,34 @@ pub fn clear_words(s: &mut [i32], n: usize) {
         set_word(s, i, 0);
         i += 1;
     }
+}
+
+// Whether the bytes are those that `draw_bytes` draws.
+pub fn bytes_stay(s: &[u8], seed: u32) -> bool {
+    let mut x = seed;
+    let mut i = 0;
+    while i < s.len() {
+        x = next(x);
+        if byte(s, i) != drawn_byte(x) {
+            return false;
+        }
+        i += 1;
+    }
+    true
+}
+
+// Whether the first n words are those that `draw_words` draws.
+pub fn words_stay(s: &[i32], n: usize, seed: u32) -> bool {
+    let mut x = seed;
+    let mut i = 0;
+    while i < n {
+        x = next(x);
+        if word_at(s, i) != drawn_word(x) {
+            return false;
+        }
+        i += 1;
+    }
+    true
 }
 
 // ---- equal content

@@ -4,11 +4,12 @@
 // 7 soft values too short (of a planner's call: the plan), 8 hard bits too short, 9 payload too short, 10 workspace too short.
 // A variant, 0 to 11, chooses among the ways to have a fault.
 use crate::accepted::words_for;
+use crate::buffers::bytes_stay;
 use crate::buffers::draw_bytes;
 use crate::buffers::draw_words;
-use crate::buffers::same_words;
 use crate::buffers::set_byte;
 use crate::buffers::set_short;
+use crate::buffers::words_stay;
 use crate::calls::Lengths;
 use crate::calls::check_front;
 use crate::calls::decode_front;
@@ -253,10 +254,6 @@ fn call_right(
     draw_bytes(&mut hard, seed);
     draw_bytes(&mut payload, seed);
     draw_words(&mut work, lent, seed);
-    let soft_before = soft;
-    let hard_before = hard;
-    let payload_before = payload;
-    let work_before = work;
     let answer = decode_front(
         lengths,
         mask,
@@ -267,13 +264,9 @@ fn call_right(
         &mut payload,
         &mut work,
     );
-    let bytes_stay = both(
-        check::same(&hard, &hard_before),
-        check::same(&payload, &payload_before),
-    );
-    let words_stay = both(
-        same_words(&soft, &soft_before, 2056),
-        same_words(&work, &work_before, lent),
+    let stay = both(
+        both(bytes_stay(&hard, seed), bytes_stay(&payload, seed)),
+        both(words_stay(&soft, 2056, seed), words_stay(&work, lent, seed)),
     );
     if answer.number != first_number(faults) {
         return false;
@@ -284,7 +277,7 @@ fn call_right(
     if !both(answer.cycles == 0, answer.check == 0) {
         return false;
     }
-    both(bytes_stay, words_stay)
+    stay
 }
 
 // A decode with faults.
@@ -345,7 +338,6 @@ pub fn plan_refusal(stage: usize, faults: usize, variant: usize, seed: u32) -> b
     let mut plan = [0u8; 2056];
     draw_faulty_mask(&mut mask, stage, faults, variant, seed);
     draw_bytes(&mut plan, seed);
-    let before = plan;
     let lengths = faulty_lengths(stage, 0, faults, variant);
     let free = room(has(faults, 7), 2 * n, variant);
     let answer = plan_front(&mask, lengths.mask, &mut plan, free);
@@ -355,7 +347,7 @@ pub fn plan_refusal(stage: usize, faults: usize, variant: usize, seed: u32) -> b
     if faults == 0 {
         true
     } else {
-        check::same(&plan, &before)
+        bytes_stay(&plan, seed)
     }
 }
 
@@ -402,7 +394,6 @@ fn planner_length(mask: &[u8], n: usize, faults: usize, seed: u32) -> bool
 {
     let mut plan = [0u8; 4112];
     draw_bytes(&mut plan, seed);
-    let before = plan;
     let answer = plan_front(mask, n, &mut plan, 2 * n);
     if !planned_right(answer, faults) {
         return false;
@@ -410,6 +401,6 @@ fn planner_length(mask: &[u8], n: usize, faults: usize, seed: u32) -> bool
     if faults == 0 {
         true
     } else {
-        check::same(&plan, &before)
+        bytes_stay(&plan, seed)
     }
 }
