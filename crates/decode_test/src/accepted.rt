@@ -2,7 +2,7 @@
 use crate::buffers::byte;
 use crate::buffers::clear_words;
 use crate::buffers::draw_bytes;
-use crate::buffers::draw_words;
+use crate::buffers::draw_outputs;
 use crate::buffers::same_words;
 use crate::buffers::set_byte;
 use crate::calls::Lengths;
@@ -26,6 +26,8 @@ use crate::numbers::length_of;
 use crate::numbers::next;
 use crate::reference::read_word;
 use crate::reference::scan;
+use crate::refusals::WRONG_CUTS;
+use crate::refusals::call_right;
 use decode::Decoded;
 ghost use Prim.Native.Nat.{_+_, _≤_};
 
@@ -119,21 +121,6 @@ fn is_product(total: u32, sweeps: usize, cycles: u32) -> bool {
         wide(total) % sweeps == 0,
         wide(total) / sweeps == wide(cycles),
     )
-}
-
-// Drawn content for the outputs and for the first words of the workspace.
-fn draw_outputs(
-    soft: &mut [i32],
-    hard: &mut [u8],
-    payload: &mut [u8],
-    work: &mut [i32],
-    words: usize,
-    seed: u32,
-) {
-    draw_words(soft, 1032, seed);
-    draw_bytes(hard, seed);
-    draw_bytes(payload, seed);
-    draw_words(work, words, seed);
 }
 
 // What a decode is to leave in its buffers, over drawn content; answers the frozen check.
@@ -292,9 +279,7 @@ fn signs_right(c: Case, mask: &[u8], plan: &[u8], word: &[u8], sent: &[u8]) -> b
     let mut payload = [0u8; 1032];
     let mut work = [0i32; 13320];
     sign_llrs(word, length_of(stage), c.seed, &mut llrs);
-    draw_bytes(&mut hard, c.seed);
-    draw_bytes(&mut payload, c.seed);
-    draw_words(&mut work, used + 8, c.seed);
+    draw_outputs(&mut soft, &mut hard, &mut payload, &mut work, used, c.seed);
     let lengths = accepted_lengths(stage, c.sweeps, k, next(c.seed));
     let answer = decode_front(
         lengths,
@@ -354,11 +339,22 @@ fn flip(plan: &mut [u8], n: usize, x: u32)
     set_byte(plan, p, bit_if(old == 0));
 }
 
-// The check of a plan with up to three changed bytes answers 0 and the cycles, or 6.
+// The check of a plan that is not allowed answers 6, and a decode with it 6 too.
+fn plan_refused(c: Case, mask: &[u8], plan: &[u8]) -> bool {
+    let n = length_of(c.stage);
+    let llrs = [0i16; 1024];
+    let lengths = accepted_lengths(c.stage, c.sweeps, n, c.seed);
+    let answer = check_front(mask, n, plan, lengths.plan);
+    if !both(answer.number == 6, answer.cycles == 0) {
+        return false;
+    }
+    call_right(lengths, WRONG_CUTS, c.seed, mask, plan, &llrs)
+}
+
+// A plan with up to three changed bytes is accepted or refused.
 pub fn plan_case(c: Case) -> bool {
     let stage = c.stage;
     let n = length_of(stage);
-    let size = 2 * n;
     let mut mask = [0u8; 1024];
     let mut kinds = [0u8; 2048];
     let mut plan = [0u8; 2048];
@@ -373,6 +369,5 @@ pub fn plan_case(c: Case) -> bool {
     if allowed(&kinds, stage, &plan) {
         return check_right(&mask, &kinds, stage, &plan);
     }
-    let answer = check_front(&mask, n, &plan, size);
-    both(answer.number == 6, answer.cycles == 0)
+    plan_refused(c, &mask, &plan)
 }

@@ -6,10 +6,10 @@
 use crate::accepted::words_for;
 use crate::buffers::bytes_stay;
 use crate::buffers::draw_bytes;
-use crate::buffers::draw_words;
+use crate::buffers::draw_outputs;
+use crate::buffers::outputs_stay;
 use crate::buffers::set_byte;
 use crate::buffers::set_short;
-use crate::buffers::words_stay;
 use crate::calls::Lengths;
 use crate::calls::check_front;
 use crate::calls::decode_front;
@@ -28,6 +28,9 @@ use plans::Planned;
 ghost use Prim.Native.Nat.{_+_, _≤_};
 
 const DECODE_FAULTS: usize = 11;
+
+// The set of fault 5 alone.
+pub const WRONG_CUTS: usize = 32;
 
 fn has(faults: usize, place: usize) -> bool
     requires { ⌜ place ≤ 10 ⌝ }
@@ -237,7 +240,7 @@ fn leaf_cycles(faults: usize, n: usize) -> usize
 }
 
 // Whether a decode has the number of its faults, and a refused one has no other result and leaves the four buffers.
-fn call_right(
+pub fn call_right(
     lengths: Lengths,
     faults: usize,
     seed: u32,
@@ -250,10 +253,7 @@ fn call_right(
     let mut hard = [0u8; 2056];
     let mut payload = [0u8; 2056];
     let mut work = [0i32; 13320];
-    draw_words(&mut soft, 2056, seed);
-    draw_bytes(&mut hard, seed);
-    draw_bytes(&mut payload, seed);
-    draw_words(&mut work, lent, seed);
+    draw_outputs(&mut soft, &mut hard, &mut payload, &mut work, lent, seed);
     let answer = decode_front(
         lengths,
         mask,
@@ -264,20 +264,14 @@ fn call_right(
         &mut payload,
         &mut work,
     );
-    let stay = both(
-        both(bytes_stay(&hard, seed), bytes_stay(&payload, seed)),
-        both(words_stay(&soft, 2056, seed), words_stay(&work, lent, seed)),
-    );
+    let stay = outputs_stay(&soft, &hard, &payload, &work, lent, seed);
     if answer.number != first_number(faults) {
         return false;
     }
     if faults == 0 {
         return true;
     }
-    if !both(answer.cycles == 0, answer.check == 0) {
-        return false;
-    }
-    stay
+    both(stay, both(answer.cycles == 0, answer.check == 0))
 }
 
 // A decode with faults.
