@@ -29,7 +29,7 @@ use crate::reference::scan;
 use crate::refusals::WRONG_CUTS;
 use crate::refusals::call_right;
 use decode::Decoded;
-ghost use Prim.Native.Nat.{_+_, _≤_};
+ghost use Prim.Native.Nat.{_≤_};
 
 // The lengths of an accepted decode. Each output and the workspace are up to seven elements longer than asked.
 fn accepted_lengths(stage: usize, sweeps: usize, k: usize, extra: u32) -> Lengths

@@ -25,7 +25,7 @@ use crate::numbers::length_of;
 use crate::numbers::minus;
 use crate::numbers::one_if;
 use plans::Planned;
-ghost use Prim.Native.Nat.{_+_, _≤_};
+ghost use Prim.Native.Nat.{_≤_};
 
 const DECODE_FAULTS: usize = 11;
 
