@@ -2,7 +2,7 @@
 use crate::buffers::byte;
 use crate::buffers::clear_words;
 use crate::buffers::draw_bytes;
-use crate::buffers::draw_words;
+use crate::buffers::draw_outputs;
 use crate::buffers::same_words;
 use crate::buffers::set_byte;
 use crate::calls::Lengths;
@@ -26,8 +26,10 @@ use crate::numbers::length_of;
 use crate::numbers::next;
 use crate::reference::read_word;
 use crate::reference::scan;
+use crate::refusals::WRONG_CUTS;
+use crate::refusals::call_right;
 use decode::Decoded;
-ghost use Prim.Native.Nat.{_+_, _≤_};
+ghost use Prim.Native.Nat.{_≤_};
 
 // The lengths of an accepted decode. Each output and the workspace are up to seven elements longer than asked.
 fn accepted_lengths(stage: usize, sweeps: usize, k: usize, extra: u32) -> Lengths
@@ -121,21 +123,6 @@ fn is_product(total: u32, sweeps: usize, cycles: u32) -> bool {
     )
 }
 
-// Drawn content for the outputs and for the first words of the workspace.
-fn draw_outputs(
-    soft: &mut [i32],
-    hard: &mut [u8],
-    payload: &mut [u8],
-    work: &mut [i32],
-    words: usize,
-    seed: u32,
-) {
-    draw_words(soft, 1032, seed);
-    draw_bytes(hard, seed);
-    draw_bytes(payload, seed);
-    draw_words(work, words, seed);
-}
-
 // What a decode is to leave in its buffers, over drawn content; answers the frozen check.
 fn expect(
     c: Case,
@@ -153,40 +140,56 @@ fn expect(
     read_word(mask, hard, c.stage, payload)
 }
 
-fn answer_right(answer: Decoded, check: u8, sweeps: usize, cycles: u32) -> bool {
-    if answer.number != 0 {
+// Whether an answer is the wanted one; that has the cycles of one sweep.
+fn answer_right(answer: Decoded, want: Decoded, sweeps: usize) -> bool {
+    if answer.number != want.number {
         return false;
     }
-    if answer.check != check {
+    if answer.check != want.check {
         return false;
     }
-    is_product(answer.cycles, sweeps, cycles)
+    is_product(answer.cycles, sweeps, want.cycles)
 }
 
-// The arrays are handed on whole, so that their lengths are known.
-fn same_bits(
-    hard: &[u8; 1032],
-    want_hard: &[u8; 1032],
-    payload: &[u8; 1032],
-    want_payload: &[u8; 1032],
+// Whether a decode over drawn content answers and leaves what is wanted.
+fn answer_same(
+    c: Case,
+    mask: &[u8],
+    plan: &[u8],
+    llrs: &[i16],
+    want: Decoded,
+    want_soft: &[i32],
+    want_hard: &[u8],
+    want_payload: &[u8],
+    want_work: &[i32],
 ) -> bool {
-    both(
-        check::same(hard, want_hard),
-        check::same(payload, want_payload),
-    )
-}
-
-fn same_values(
-    soft: &[i32; 1032],
-    want_soft: &[i32; 1032],
-    work: &[i32; 13320],
-    want_work: &[i32; 13320],
-    words: usize,
-) -> bool {
-    both(
-        same_words(soft, want_soft, 1032),
-        same_words(work, want_work, words),
-    )
+    let words = words_for(c.stage) + 8;
+    let k = unfrozen(mask, length_of(c.stage));
+    let mut soft = [0i32; 1032];
+    let mut hard = [0u8; 1032];
+    let mut payload = [0u8; 1032];
+    let mut work = [0i32; 13320];
+    draw_outputs(&mut soft, &mut hard, &mut payload, &mut work, words, c.seed);
+    let lengths = accepted_lengths(c.stage, c.sweeps, k, next(c.seed));
+    let answer = decode_front(
+        lengths,
+        mask,
+        plan,
+        llrs,
+        &mut soft,
+        &mut hard,
+        &mut payload,
+        &mut work,
+    );
+    let bits = both(
+        check::same(&hard, want_hard),
+        check::same(&payload, want_payload),
+    );
+    let values = both(
+        same_words(&soft, want_soft, 1032),
+        same_words(&work, want_work, words),
+    );
+    both(both(bits, values), answer_right(answer, want, c.sweeps))
 }
 
 // Whether a decode writes what the reference gives, answers the model's cycles, clears its workspace and leaves every tail.
@@ -198,43 +201,25 @@ fn decode_right(
     llrs: &[i16],
     values: &[u64],
 ) -> bool {
-    let words = words_for(c.stage) + 8;
     let mut soft = [0i32; 1032];
     let mut hard = [0u8; 1032];
     let mut payload = [0u8; 1032];
     let mut work = [0i32; 13320];
-    let mut want_soft = [0i32; 1032];
-    let mut want_hard = [0u8; 1032];
-    let mut want_payload = [0u8; 1032];
-    let mut want_work = [0i32; 13320];
     let check = expect(
         c,
         mask,
         values,
-        &mut want_soft,
-        &mut want_hard,
-        &mut want_payload,
-        &mut want_work,
-    );
-    draw_outputs(&mut soft, &mut hard, &mut payload, &mut work, words, c.seed);
-    let k = unfrozen(mask, length_of(c.stage));
-    let answer = decode_front(
-        accepted_lengths(c.stage, c.sweeps, k, next(c.seed)),
-        mask,
-        plan,
-        llrs,
         &mut soft,
         &mut hard,
         &mut payload,
         &mut work,
     );
-    if !answer_right(answer, check, c.sweeps, cycles) {
-        return false;
-    }
-    both(
-        same_bits(&hard, &want_hard, &payload, &want_payload),
-        same_values(&soft, &want_soft, &work, &want_work, words),
-    )
+    let want = Decoded {
+        number: 0,
+        cycles,
+        check,
+    };
+    answer_same(c, mask, plan, llrs, want, &soft, &hard, &payload, &work)
 }
 
 // Planner, check and decoder on one case.
@@ -294,9 +279,7 @@ fn signs_right(c: Case, mask: &[u8], plan: &[u8], word: &[u8], sent: &[u8]) -> b
     let mut payload = [0u8; 1032];
     let mut work = [0i32; 13320];
     sign_llrs(word, length_of(stage), c.seed, &mut llrs);
-    draw_bytes(&mut hard, c.seed);
-    draw_bytes(&mut payload, c.seed);
-    draw_words(&mut work, used + 8, c.seed);
+    draw_outputs(&mut soft, &mut hard, &mut payload, &mut work, used, c.seed);
     let lengths = accepted_lengths(stage, c.sweeps, k, next(c.seed));
     let answer = decode_front(
         lengths,
@@ -356,11 +339,22 @@ fn flip(plan: &mut [u8], n: usize, x: u32)
     set_byte(plan, p, bit_if(old == 0));
 }
 
-// The check of a plan with up to three changed bytes answers 0 and the cycles, or 6.
+// The check of a plan that is not allowed answers 6, and a decode with it 6 too.
+fn plan_refused(c: Case, mask: &[u8], plan: &[u8]) -> bool {
+    let n = length_of(c.stage);
+    let llrs = [0i16; 1024];
+    let lengths = accepted_lengths(c.stage, c.sweeps, n, c.seed);
+    let answer = check_front(mask, n, plan, lengths.plan);
+    if !both(answer.number == 6, answer.cycles == 0) {
+        return false;
+    }
+    call_right(lengths, WRONG_CUTS, c.seed, mask, plan, &llrs)
+}
+
+// A plan with up to three changed bytes is accepted or refused.
 pub fn plan_case(c: Case) -> bool {
     let stage = c.stage;
     let n = length_of(stage);
-    let size = 2 * n;
     let mut mask = [0u8; 1024];
     let mut kinds = [0u8; 2048];
     let mut plan = [0u8; 2048];
@@ -375,6 +369,5 @@ pub fn plan_case(c: Case) -> bool {
     if allowed(&kinds, stage, &plan) {
         return check_right(&mask, &kinds, stage, &plan);
     }
-    let answer = check_front(&mask, n, &plan, size);
-    both(answer.number == 6, answer.cycles == 0)
+    plan_refused(c, &mask, &plan)
 }

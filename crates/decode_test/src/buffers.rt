@@ -1,5 +1,6 @@
 // Reads and stores that do nothing outside a buffer, so that no caller has an index to prove; a wrong one shows as a mismatch.
 // And buffers drawn, compared, and cut to a length.
+use crate::numbers::both;
 use crate::numbers::next;
 use crate::values::word;
 
@@ -11,6 +12,10 @@ pub fn set_byte(s: &mut [u8], i: usize, b: u8) {
     if i < s.len() {
         s[i] = b;
     }
+}
+
+fn word_at(s: &[i32], i: usize) -> i32 {
+    if i < s.len() { s[i] } else { 0 }
 }
 
 pub fn set_word(s: &mut [i32], i: usize, w: i32) {
@@ -95,6 +100,68 @@ pub fn clear_words(s: &mut [i32], n: usize) {
         set_word(s, i, 0);
         i += 1;
     }
+}
+
+// The outputs of a decode, and the first words of its workspace.
+pub fn draw_outputs(
+    soft: &mut [i32],
+    hard: &mut [u8],
+    payload: &mut [u8],
+    work: &mut [i32],
+    words: usize,
+    seed: u32,
+) {
+    let n = soft.len();
+    draw_words(soft, n, seed);
+    draw_bytes(hard, seed);
+    draw_bytes(payload, seed);
+    draw_words(work, words, seed);
+}
+
+// Whether the bytes are those that `draw_bytes` draws.
+pub fn bytes_stay(s: &[u8], seed: u32) -> bool {
+    let mut x = seed;
+    let mut i = 0;
+    while i < s.len() {
+        x = next(x);
+        if byte(s, i) != drawn_byte(x) {
+            return false;
+        }
+        i += 1;
+    }
+    true
+}
+
+// Whether the first n words are those that `draw_words` draws.
+fn words_stay(s: &[i32], n: usize, seed: u32) -> bool {
+    let mut x = seed;
+    let mut i = 0;
+    while i < n {
+        x = next(x);
+        if word_at(s, i) != drawn_word(x) {
+            return false;
+        }
+        i += 1;
+    }
+    true
+}
+
+// Whether the buffers are as `draw_outputs` leaves them.
+pub fn outputs_stay(
+    soft: &[i32],
+    hard: &[u8],
+    payload: &[u8],
+    work: &[i32],
+    words: usize,
+    seed: u32,
+) -> bool {
+    both(
+        both(bytes_stay(hard, seed), bytes_stay(payload, seed)),
+        both(
+            words_stay(soft, soft.len(), seed),
+            words_stay(work, words, seed),
+        ),
+    )
 }
 
 // ---- equal content

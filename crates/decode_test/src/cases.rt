@@ -43,13 +43,15 @@ fn drawn_frozen(style: usize, x: u32) -> bool {
 
 // Styles 5 to 9, by a rule with a threshold: the number of ones in the index and then the index, a mix of both, a frozen front,
 // a frozen end, and stripes.
-fn ruled_frozen(style: usize, n: usize, i: usize, threshold: usize) -> bool
-    requires { ⌜ (n ≤ 1024) × (i ≤ 1024) ⌝ }
+fn ruled_frozen(style: usize, stage: usize, i: usize, threshold: usize) -> bool
+    requires { ⌜ i ≤ 1024 ⌝ }
 {
+    let n = length_of(stage);
+    let most = stage % 16;
     let ones = (usize::count_ones(i) % 16) as usize;
     match style {
-        5 => ones * 1024 + i < threshold % 11264,
-        6 => ones * 128 + i < threshold % 2304,
+        5 => ones * 1024 + i < threshold % (most * 1024 + n),
+        6 => ones * 128 + i < threshold % (most * 128 + n),
         7 => i < threshold % (n + 1),
         8 => threshold % (n + 1) <= i,
         _ => (i >> (threshold % 10)) % 2 == 1,
@@ -99,7 +101,7 @@ fn frozen(c: Case, i: usize, x: u32) -> bool
         return drawn_frozen(c.mask, x);
     }
     if c.mask < 10 {
-        return ruled_frozen(c.mask, n, i, threshold);
+        return ruled_frozen(c.mask, c.stage, i, threshold);
     }
     if c.mask < 16 {
         let kind = kind_of_style(c.mask);

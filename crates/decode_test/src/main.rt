@@ -18,7 +18,7 @@ use cases::Case;
 use numbers::length_of;
 use numbers::one_if;
 use numbers::seed_of;
-ghost use Prim.Native.Nat.{_*_, _≤_};
+ghost use Prim.Native.Nat.{_≤_};
 
 // The groups.
 const FRAMES: usize = 0;

@@ -9,7 +9,7 @@ use crate::numbers::length_of;
 use crate::numbers::minus;
 use crate::numbers::next;
 use crate::numbers::one_if;
-ghost use Prim.Native.Nat.{_*_, _≤_};
+ghost use Prim.Native.Nat.{_≤_};
 
 pub const NO_KIND: u8 = 6;
 

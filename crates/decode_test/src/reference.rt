@@ -18,7 +18,7 @@ use crate::values::box_of;
 use crate::values::negative;
 use crate::values::soft_word;
 use crate::values::sum;
-ghost use Prim.Native.Nat.{_+_, _≤_, _<_};
+ghost use Prim.Native.Nat.{_≤_, _<_};
 
 // ---- the tables
 

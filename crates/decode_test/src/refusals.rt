@@ -4,9 +4,10 @@
 // 7 soft values too short (of a planner's call: the plan), 8 hard bits too short, 9 payload too short, 10 workspace too short.
 // A variant, 0 to 11, chooses among the ways to have a fault.
 use crate::accepted::words_for;
+use crate::buffers::bytes_stay;
 use crate::buffers::draw_bytes;
-use crate::buffers::draw_words;
-use crate::buffers::same_words;
+use crate::buffers::draw_outputs;
+use crate::buffers::outputs_stay;
 use crate::buffers::set_byte;
 use crate::buffers::set_short;
 use crate::calls::Lengths;
@@ -24,9 +25,12 @@ use crate::numbers::length_of;
 use crate::numbers::minus;
 use crate::numbers::one_if;
 use plans::Planned;
-ghost use Prim.Native.Nat.{_+_, _≤_};
+ghost use Prim.Native.Nat.{_≤_};
 
 const DECODE_FAULTS: usize = 11;
+
+// The set of fault 5 alone.
+pub const WRONG_CUTS: usize = 32;
 
 fn has(faults: usize, place: usize) -> bool
     requires { ⌜ place ≤ 10 ⌝ }
@@ -236,7 +240,7 @@ fn leaf_cycles(faults: usize, n: usize) -> usize
 }
 
 // Whether a decode has the number of its faults, and a refused one has no other result and leaves the four buffers.
-fn call_right(
+pub fn call_right(
     lengths: Lengths,
     faults: usize,
     seed: u32,
@@ -249,14 +253,7 @@ fn call_right(
     let mut hard = [0u8; 2056];
     let mut payload = [0u8; 2056];
     let mut work = [0i32; 13320];
-    draw_words(&mut soft, 2056, seed);
-    draw_bytes(&mut hard, seed);
-    draw_bytes(&mut payload, seed);
-    draw_words(&mut work, lent, seed);
-    let soft_before = soft;
-    let hard_before = hard;
-    let payload_before = payload;
-    let work_before = work;
+    draw_outputs(&mut soft, &mut hard, &mut payload, &mut work, lent, seed);
     let answer = decode_front(
         lengths,
         mask,
@@ -267,24 +264,14 @@ fn call_right(
         &mut payload,
         &mut work,
     );
-    let bytes_stay = both(
-        check::same(&hard, &hard_before),
-        check::same(&payload, &payload_before),
-    );
-    let words_stay = both(
-        same_words(&soft, &soft_before, 2056),
-        same_words(&work, &work_before, lent),
-    );
+    let stay = outputs_stay(&soft, &hard, &payload, &work, lent, seed);
     if answer.number != first_number(faults) {
         return false;
     }
     if faults == 0 {
         return true;
     }
-    if !both(answer.cycles == 0, answer.check == 0) {
-        return false;
-    }
-    both(bytes_stay, words_stay)
+    both(stay, both(answer.cycles == 0, answer.check == 0))
 }
 
 // A decode with faults.
@@ -345,7 +332,6 @@ pub fn plan_refusal(stage: usize, faults: usize, variant: usize, seed: u32) -> b
     let mut plan = [0u8; 2056];
     draw_faulty_mask(&mut mask, stage, faults, variant, seed);
     draw_bytes(&mut plan, seed);
-    let before = plan;
     let lengths = faulty_lengths(stage, 0, faults, variant);
     let free = room(has(faults, 7), 2 * n, variant);
     let answer = plan_front(&mask, lengths.mask, &mut plan, free);
@@ -355,7 +341,7 @@ pub fn plan_refusal(stage: usize, faults: usize, variant: usize, seed: u32) -> b
     if faults == 0 {
         true
     } else {
-        check::same(&plan, &before)
+        bytes_stay(&plan, seed)
     }
 }
 
@@ -402,7 +388,6 @@ fn planner_length(mask: &[u8], n: usize, faults: usize, seed: u32) -> bool
 {
     let mut plan = [0u8; 4112];
     draw_bytes(&mut plan, seed);
-    let before = plan;
     let answer = plan_front(mask, n, &mut plan, 2 * n);
     if !planned_right(answer, faults) {
         return false;
@@ -410,6 +395,6 @@ fn planner_length(mask: &[u8], n: usize, faults: usize, seed: u32) -> bool
     if faults == 0 {
         true
     } else {
-        check::same(&plan, &before)
+        bytes_stay(&plan, seed)
     }
 }
