@@ -13,7 +13,7 @@ use lib.Dec.{T, eqb, leb, eqb·zero-suc, eqb·suc-zero, eqb·suc-suc}
 use lib.ListN.{replicate, length, take, drop, getD, length-drop, length-replicate, take-append-drop, drop-of-length-le, List·getD-append, getD-replicate}
 use lib.Seq.{drop-cons, length-take-le, getD-append-add}
 use Rattle.model.specs.Lists.{same}
-use Rattle.model.specs.Kinds.{Kind, rate-0, rate-1, REP, SPC, type-I, type-III, order, leastSize, pattern, onlyFirst, fits, firstOf, kindOf, isSome}
+use Rattle.model.specs.Kinds.{Kind, rate-0, rate-1, REP, SPC, type-I, type-III, order, leastSize, pattern, onlyFirst, fits, firstOf, kindOf, isSome, isKind}
 use Rattle.model.proofs.Lists.{eqb-same, true-T, and-assoc, and-true, same→eq}
 use Rattle.model.proofs.Shortcuts.{fits-facts, firstOf-fits}
 use Rattle.kinds.specs.Runs.{allAre, front, fitsRun, kindAt, Ends}
@@ -168,6 +168,38 @@ module _ (mask : List ℕ) (f : ℕ) (h : f ≤ length mask) (e : mask ≡ onlyF
       go : Dec (f ≤ i) → f ≤ i
       go (yes k) = k
       go (no k) = absurd (b (in-front (omega arith)))
+
+-- ---- the rate-0 and rate-1 kinds are told by one byte at an end
+pub record Told (mask : List ℕ) (o : Option Kind) : Type 0 where
+  pub some : 0 < length mask
+  pub zero : eqb (getD mask (length mask - 1) 0) 1 ≡ isKind rate-0 o
+  pub one : eqb (getD mask 0 0) 0 ≡ isKind rate-1 o
+
+-- the first position is frozen and the last is not
+told-mixed : (mask : List ℕ) (k : Kind) → 0 < front k (length mask) → front k (length mask) < length mask → mask ≡ onlyFirst (front k (length mask)) (length mask)
+    → isKind rate-0 (some k) ≡ false → isKind rate-1 (some k) ≡ false → Told mask (some k)
+told-mixed mask k low high e a b =
+    let f : ℕ = front k (length mask) in
+    let last : getD mask (length mask - 1) 0 ≡ 0 = behind mask f (omega arith) e (length mask - 1) (omega arith) (omega arith) in
+    let first : getD mask 0 0 ≡ 1 = in-front mask f (omega arith) e 0 (omega arith) low in
+    record { some = omega arith; zero = rw (last, a); one = rw (first, b) }
+
+told-by : (mask : List ℕ) (k : Kind) → leastSize k ≤ length mask → mask ≡ onlyFirst (front k (length mask)) (length mask) → Told mask (some k)
+told-by mask rate-0 h e = record { some = h; zero = rw (in-front mask (length mask) (omega arith) e (length mask - 1) (omega arith) (omega arith)); one = rw (in-front mask (length mask) (omega arith) e 0 h h) }
+told-by mask rate-1 h e = record { some = h; zero = rw (behind mask 0 (omega arith) e (length mask - 1) (omega arith) (omega arith)); one = rw (behind mask 0 (omega arith) e 0 h (omega arith)) }
+told-by mask REP h e = told-mixed mask REP (omega arith) (omega arith) e refl refl
+told-by mask SPC h e = told-mixed mask SPC (omega arith) (omega arith) e refl refl
+told-by mask type-I h e = told-mixed mask type-I (omega arith) (omega arith) e refl refl
+told-by mask type-III h e = told-mixed mask type-III (omega arith) (omega arith) e refl refl
+
+pub told : (mask : List ℕ) → T (isSome (kindOf (length mask) mask)) → Told mask (kindOf (length mask) mask)
+told mask t = go (kindOf (length mask) mask) refl t
+  where
+    go : (o : Option Kind) → kindOf (length mask) mask ≡ o → T (isSome o) → Told mask o
+    go none e t = absurd t
+    go (some k) e t =
+        let fit = fits-facts (length mask) mask k (unfold kindOf in firstOf-fits (fits (length mask) mask) order k e) in
+        told-by mask k (fit .0) (fit .1 ∙ pattern-run k (length mask) (fit .0) .2)
 
 -- the byte in front is frozen, that at m - s is not: they are not the same
 pub past : (mask : List ℕ) (m s : ℕ) → s ≤ m → getD mask 0 0 ≡ 1 → (getD mask (m - s) 0 ≡ 1 → ⊥) → s < m

@@ -6,7 +6,7 @@ ghost use Prim.Native.Nat.{_-_, _≤_};
 ghost use lib.Dec.{T, eqb, leb};
 ghost use lib.ListN.{length};
 ghost use Rattle.model.specs.Lists.{same};
-ghost use Rattle.model.specs.Kinds.{kindOf, isSome, onlyFirst};
+ghost use Rattle.model.specs.Kinds.{rate-0, rate-1, kindOf, isSome, isKind, onlyFirst};
 ghost use Rattle.kinds.specs.Runs.{kindNamed, allAre, kindAt, Ends};
 
 // Mask bytes.
@@ -126,4 +126,20 @@ pub fn cut_kind(mask: &[u8]) -> Kind
 {
     let run = run_at_ends(mask);
     kind_at(mask.len(), run)
+}
+
+// Whether a node that is known to be of some kind is a rate-0 node: its last position decides.
+pub fn is_rate_zero(mask: &[u8]) -> bool
+    requires { ⌜ T (isSome (kindOf (length (now mask)) (now mask))) ⌝ }
+    ensures { λ r. ⌜ r ≡ isKind rate-0 (kindOf (length (now (mask .entry))) (now (mask .entry))) ⌝ }
+{
+    mask[mask.len() - 1] == FROZEN
+}
+
+// Whether a node that is known to be of some kind is a rate-1 node: its first position decides.
+pub fn is_rate_one(mask: &[u8]) -> bool
+    requires { ⌜ T (isSome (kindOf (length (now mask)) (now mask))) ⌝ }
+    ensures { λ r. ⌜ r ≡ isKind rate-1 (kindOf (length (now (mask .entry))) (now (mask .entry))) ⌝ }
+{
+    mask[0] == UNFROZEN
 }

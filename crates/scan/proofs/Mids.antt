@@ -7,7 +7,7 @@ use Prim.Native.Nat.{ℕ, suc, _+_, _*_, _^_, _≤_, _<_}
 use native.Mathlib.Nat.{suc-mul}
 use native.Mathlib.Omega.{arith}
 use lib.ListN.{length}
-use Rattle.model.specs.Soft.{Soft, _at_, box, plus, mark}
+use Rattle.model.specs.Soft.{Soft, _at_, box, plus, mark, wordOf}
 use Rattle.model.specs.Scan.{Tree, message, toLeft, toRight}
 use Rattle.model.specs.Plans.{walk}
 use Rattle.model.specs.Bounds.{limit, Small, Under, SmallAll, UnderAll, cap}
@@ -15,7 +15,7 @@ use Rattle.model.proofs.Lists.{double, tabulate-ext}
 use Rattle.model.proofs.Algebra.{plus-comm}
 use Rattle.model.proofs.Bounds.{small-box, small-plus, under-box, under-plus, under-mono, small-mono}
 use Rattle.words.specs.Words.{Added, word, softOf, soft, write, Holds, boxWord, addWord, boxPlus, plusBox, Words, Sums, BoxSums, FiniteBoxSums}
-use Rattle.words.proofs.Laws.{soft-at, small-under, small-size, under-word, soft-box, soft-add, add-word}
+use Rattle.words.proofs.Laws.{word-soft, soft-at, small-under, small-size, under-word, soft-box, soft-add, add-word}
 use Rattle.words.proofs.Store.{source-below}
 use Rattle.scan.specs.Space.{treeAt, part, Kept, Visited}
 use Rattle.scan.proofs.Keep.{Fit, kept-refl, kept-trans, kept-scratch, kept-row, kept-child, fit-kept, tree-cong, message-at, under, stored-at}
@@ -136,6 +136,13 @@ module _ (N t b x : ℕ) (w : List ℤ) (fit : Fit N (suc t) b x (length w)) (v 
   at-right k lt =
       ap (λ (i : ℕ). softOf (word v i)) (let e : t * N + b + 2 ^ t + k ≡ t * N + (b + 2 ^ t) + k = omega arith in e)
       ∙ message-at N t (b + 2 ^ t) v k lt ∙ ap (λ (T : Tree). message T at k) (m .rights)
+
+  -- a child's message that has the same value everywhere
+  pub left-holds : (s : Soft) → ((k : ℕ) → k < 2 ^ t → message A at k ≡ s) → Holds v (t * N + b) (2 ^ t) (λ k. wordOf s)
+  left-holds s same k lt = sym (word-soft (word v (t * N + b + k))) ∙ ap wordOf (at-left k lt ∙ same k lt)
+
+  pub right-holds : (s : Soft) → ((k : ℕ) → k < 2 ^ t → message B at k ≡ s) → Holds v (t * N + b + 2 ^ t) (2 ^ t) (λ k. wordOf s)
+  right-holds s same k lt = sym (word-soft (word v (t * N + b + 2 ^ t + k))) ∙ ap wordOf (at-right k lt ∙ same k lt)
 
   -- ---- bounds
   module _ (bd : ℕ) (S : SmallAll (suc t) bd (soft w x (2 ^ suc t))) (lim : bd + cap t (2 * bd) ≤ limit) where

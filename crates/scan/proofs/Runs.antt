@@ -1,6 +1,6 @@
 -- The steps of a visit: what each asks holds, and together they are the walk's. Assumes nothing.
 use mathlib.Core.Path.{_≡_, refl, sym, ap, ap₂, _∙_, subst, subst₃}
-use mathlib.Core.Bool.{Bool, true, false, cond, _&&_}
+use mathlib.Core.Bool.{Bool, true, false, cond, _&&_, _||_}
 use lib.IntN.{ℤ, pos}
 use mathlib.Core.List.{List}
 use Prim.Native.Nat.{ℕ, zero, suc, _+_, _-_, _*_, _/_, _^_, _≤_}
@@ -10,7 +10,7 @@ use lib.Dec.{T}
 use mathlib.Core.Option.{Option, none, some}
 use lib.Pow.{pow-pos}
 use lib.ListN.{length, take, drop}
-use Rattle.model.specs.Soft.{Soft}
+use Rattle.model.specs.Soft.{Soft, certain, softZero, mark}
 use Rattle.model.specs.Scan.{Tree, message, toLeft, toRight, toNode}
 use Rattle.model.specs.Kinds.{isSome, Kind, rate-0, rate-1, REP, SPC, type-I, type-III, kindOf, shortcut}
 use Rattle.model.specs.Plans.{isRate01, putKind, isCut, wellCut, walk}
@@ -21,9 +21,10 @@ use Rattle.model.proofs.Paths.{wellCut-cut, wellCut-through}
 use Rattle.model.proofs.Bounds.{cap-suc, small-toLeft, small-toRight, held-walk, held-message}
 use Rattle.words.specs.Words.{FiniteBoxSums, Holds, word, softOf, soft, write, boxPlus, plusBox, Words, Sums, BoxSums}
 use Rattle.words.proofs.Store.{source-below, length-write}
-use Rattle.scan.specs.Space.{constant, treeAt, part, Room, Visited}
+use Rattle.scan.specs.Space.{constant, FixedAs, treeAt, part, Room, Visited}
 use Rattle.scan.proofs.Keep.{Fit, node-path, part-left, part-right}
-use Rattle.scan.proofs.Mids.{Mid, mid-start, mid-scratch, mid-row, mid-left, mid-right, words-list, words-left, right-sums, right-stays, right-list, left-sums, left-list, up-sums, low-half, high-half}
+use Rattle.scan.proofs.Mids.{Mid, mid-start, mid-scratch, mid-row, mid-left, mid-right, words-list, words-left, right-sums, right-stays, right-list, left-sums, left-list, up-sums, low-half, high-half, left-holds, right-holds}
+use Rattle.scan.proofs.Known.{fixed-constant, walk-certain, walk-zero}
 
 -- ---- the stores of an uncut visit: h is half the size, u the stage below, c the place of the child's incoming list
 -- a child's incoming list is stored unless the child is constant
@@ -38,25 +39,30 @@ NodeStored N t b x h u w v =
     v ≡ write (write w (t * N + b) h (boxPlus w (u * N + b) (x + h) (u * N + b + h))) (t * N + b + h) h (plusBox w x (u * N + b) (u * N + b + h))
 
 -- whether a child is constant
-abbrev pub SkipOf : List ℕ → List ℕ → (h p b : ℕ) → Bool → Type 0
+abbrev SkipOf : List ℕ → List ℕ → (h p b : ℕ) → Bool → Type 0
 SkipOf plan mask h p b skip = skip ≡ constant plan h p (take h (drop b mask))
+
+-- and what is known of its message then
+abbrev pub Known : List ℕ → List ℕ → (h p b : ℕ) → Bool → Bool → Type 0
+Known plan mask h p b a z = FixedAs plan h p (take h (drop b mask)) a z
 
 -- what each step asks, and what the last one ends
 pub record Run (plan mask : List ℕ) (N t p b x : ℕ) (w : List ℤ) (h u c : ℕ) : Type 0 where
   pub kind-left : isCut plan (2 * p) ≡ true → T (isSome (kindOf h (take h (drop b mask))))
   pub kind-right : isCut plan (2 * p + 1) ≡ true → T (isSome (kindOf h (take h (drop (b + h) mask))))
   pub one : Words w x h × Sums w (x + h) (u * N + b + h) h
-  pub two : (s₁ : Bool) → SkipOf plan mask h (2 * p) b s₁ → (w₁ : List ℤ) → LeftList N b x h u c s₁ w w₁ → Room plan mask N u h (2 * p) b c w₁
-  pub three : (s₁ : Bool) → SkipOf plan mask h (2 * p) b s₁ → (w₁ w₂ : List ℤ) → LeftList N b x h u c s₁ w w₁ → Visited plan mask N u (2 * p) b c w₁ w₂
-      → Words w₂ x h × Words w₂ (u * N + b) h × FiniteBoxSums w₂ x (u * N + b) (x + h) h
-  pub four : (s₁ : Bool) → SkipOf plan mask h (2 * p) b s₁ → (w₁ w₂ : List ℤ) → LeftList N b x h u c s₁ w w₁ → Visited plan mask N u (2 * p) b c w₁ w₂
-      → (s₃ : Bool) → SkipOf plan mask h (2 * p + 1) (b + h) s₃ → (w₃ : List ℤ) → RightList N b x h u c s₃ w₂ w₃ → Room plan mask N u h (2 * p + 1) (b + h) c w₃
-  pub five : (s₁ : Bool) → SkipOf plan mask h (2 * p) b s₁ → (w₁ w₂ : List ℤ) → LeftList N b x h u c s₁ w w₁ → Visited plan mask N u (2 * p) b c w₁ w₂
-      → (s₃ : Bool) → SkipOf plan mask h (2 * p + 1) (b + h) s₃ → (w₃ w₄ : List ℤ) → RightList N b x h u c s₃ w₂ w₃ → Visited plan mask N u (2 * p + 1) (b + h) c w₃ w₄
-      → (Words w₄ x h × Words w₄ (u * N + b) h × Sums w₄ (x + h) (u * N + b + h) h × BoxSums w₄ x (u * N + b) (u * N + b + h) h)
-      × (FiniteBoxSums w₄ x (u * N + b) (x + h) h × (s₃ ≡ false → Holds w₄ c h (plusBox w₄ x (u * N + b) (x + h))))
-  pub done : (s₁ : Bool) → SkipOf plan mask h (2 * p) b s₁ → (w₁ w₂ : List ℤ) → LeftList N b x h u c s₁ w w₁ → Visited plan mask N u (2 * p) b c w₁ w₂
-      → (s₃ : Bool) → SkipOf plan mask h (2 * p + 1) (b + h) s₃ → (w₃ w₄ : List ℤ) → RightList N b x h u c s₃ w₂ w₃ → Visited plan mask N u (2 * p + 1) (b + h) c w₃ w₄
+  pub two : (a₁ z₁ : Bool) → Known plan mask h (2 * p) b a₁ z₁ → (w₁ : List ℤ) → LeftList N b x h u c (a₁ || z₁) w w₁ → Room plan mask N u h (2 * p) b c w₁
+  pub three : (a₁ z₁ : Bool) → Known plan mask h (2 * p) b a₁ z₁ → (w₁ w₂ : List ℤ) → LeftList N b x h u c (a₁ || z₁) w w₁ → Visited plan mask N u (2 * p) b c w₁ w₂
+      → (Words w₂ x h × Words w₂ (u * N + b) h × FiniteBoxSums w₂ x (u * N + b) (x + h) h) × (a₁ ≡ true → Holds w₂ (u * N + b) h (λ k. pos mark))
+  pub four : (a₁ z₁ : Bool) → Known plan mask h (2 * p) b a₁ z₁ → (w₁ w₂ : List ℤ) → LeftList N b x h u c (a₁ || z₁) w w₁ → Visited plan mask N u (2 * p) b c w₁ w₂
+      → (a₃ z₃ : Bool) → Known plan mask h (2 * p + 1) (b + h) a₃ z₃ → (w₃ : List ℤ) → RightList N b x h u c (a₃ || z₃) w₂ w₃ → Room plan mask N u h (2 * p + 1) (b + h) c w₃
+  pub five : (a₁ z₁ : Bool) → Known plan mask h (2 * p) b a₁ z₁ → (w₁ w₂ : List ℤ) → LeftList N b x h u c (a₁ || z₁) w w₁ → Visited plan mask N u (2 * p) b c w₁ w₂
+      → (a₃ z₃ : Bool) → Known plan mask h (2 * p + 1) (b + h) a₃ z₃ → (w₃ w₄ : List ℤ) → RightList N b x h u c (a₃ || z₃) w₂ w₃ → Visited plan mask N u (2 * p + 1) (b + h) c w₃ w₄
+      → (Words w₄ x h × Words w₄ (u * N + b) h × Sums w₄ (x + h) (u * N + b + h) h × BoxSums w₄ x (u * N + b) (u * N + b + h) h × FiniteBoxSums w₄ x (u * N + b) (x + h) h)
+      × ((a₁ ≡ true → Holds w₄ (u * N + b) h (λ k. pos mark)) × ((z₃ ≡ true → Holds w₄ (u * N + b + h) h (λ k. pos 0))
+      × ((a₃ || z₃) ≡ false → Holds w₄ c h (plusBox w₄ x (u * N + b) (x + h)))))
+  pub done : (a₁ z₁ : Bool) → Known plan mask h (2 * p) b a₁ z₁ → (w₁ w₂ : List ℤ) → LeftList N b x h u c (a₁ || z₁) w w₁ → Visited plan mask N u (2 * p) b c w₁ w₂
+      → (a₃ z₃ : Bool) → Known plan mask h (2 * p + 1) (b + h) a₃ z₃ → (w₃ w₄ : List ℤ) → RightList N b x h u c (a₃ || z₃) w₂ w₃ → Visited plan mask N u (2 * p + 1) (b + h) c w₃ w₄
       → (w₅ : List ℤ) → NodeStored N t b x h u w₄ w₅ → Visited plan mask N t p b x w w₅
 
 -- ---- a constant node's walk does not depend on what it is handed
@@ -281,22 +287,43 @@ module _ (plan mask : List ℕ) (N t s p b x : ℕ) (w : List ℤ) (room : Room 
               kept = m₅ .kept;
             }
 
+  -- a child whose message is fixed is skipped
+  skip-left : (a z : Bool) → Known plan mask h (2 * p) b a z → SkipOf plan mask h (2 * p) b (a || z)
+  skip-left a z f = fixed-constant plan h (2 * p) (part mask b t) a z f
+
+  skip-right : (a z : Bool) → Known plan mask h (2 * p + 1) (b + h) a z → SkipOf plan mask h (2 * p + 1) (b + h) (a || z)
+  skip-right a z f = fixed-constant plan h (2 * p + 1) (part mask (b + 2 ^ t) t) a z f
+
   pub run-at : Run plan mask N (suc t) p b x w (2 ^ t) t (x + (2 ^ t + 2 ^ t))
   run-at = record {
     kind-left = λ e. wellCut-cut plan t (2 * p) (part mask b t) e wl;
     kind-right = λ e. wellCut-cut plan t (2 * p + 1) (part mask (b + 2 ^ t) t) e wr;
     one = (words-list N t b x w fits w TA TB m₀ bd S lim, left-sums N t b x w fits w TA TB m₀ bd S lim UTB);
-    two = room₁;
-    three = λ s₁ k₁ w₁ w₂ e₁ v₂.
-        let m = m₂ s₁ k₁ w₁ e₁ w₂ v₂ in
-        (words-list N t b x w fits w₂ A TB m bd S lim, words-left N t b x w fits w₂ A TB m bd S lim UA, right-sums N t b x w fits w₂ A TB m bd S lim UA lim₂);
-    four = λ s₁ k₁ w₁ w₂ e₁ v₂ s₃ k₃ w₃ e₃. room₃ s₁ k₁ w₁ e₁ w₂ v₂ s₃ k₃ w₃ e₃;
-    five = λ s₁ k₁ w₁ w₂ e₁ v₂ s₃ k₃ w₃ w₄ e₃ v₄.
-        let m = m₄ s₁ k₁ w₁ e₁ w₂ v₂ s₃ k₃ w₃ e₃ w₄ v₄ in (
-          (words-list N t b x w fits w₄ A B m bd S lim, words-left N t b x w fits w₄ A B m bd S lim UA, left-sums N t b x w fits w₄ A B m bd S lim UB, up-sums N t b x w fits w₄ A B m bd S lim UB UA),
-          (right-sums N t b x w fits w₄ A B m bd S lim UA lim₂, listed₄ s₁ k₁ w₁ e₁ w₂ v₂ s₃ k₃ w₃ e₃ w₄ v₄),
+    two = λ a₁ z₁ f₁ w₁ e₁. room₁ (a₁ || z₁) (skip-left a₁ z₁ f₁) w₁ e₁;
+    three = λ a₁ z₁ f₁ w₁ w₂ e₁ v₂.
+        let m = m₂ (a₁ || z₁) (skip-left a₁ z₁ f₁) w₁ e₁ w₂ v₂ in (
+          (words-list N t b x w fits w₂ A TB m bd S lim, words-left N t b x w fits w₂ A TB m bd S lim UA, right-sums N t b x w fits w₂ A TB m bd S lim UA lim₂),
+          λ q. left-holds N t b x w fits w₂ A TB m certain (walk-certain plan t (2 * p) (part mask b t) TA (toLeft h L (message TB)) a₁ z₁ f₁ q),
         );
-    done = λ s₁ k₁ w₁ w₂ e₁ v₂ s₃ k₃ w₃ w₄ e₃ v₄ w₅ e₅. visited s₁ k₁ w₁ e₁ w₂ v₂ s₃ k₃ w₃ e₃ w₄ v₄ w₅ e₅;
+    four = λ a₁ z₁ f₁ w₁ w₂ e₁ v₂ a₃ z₃ f₃ w₃ e₃. room₃ (a₁ || z₁) (skip-left a₁ z₁ f₁) w₁ e₁ w₂ v₂ (a₃ || z₃) (skip-right a₃ z₃ f₃) w₃ e₃;
+    five = λ a₁ z₁ f₁ w₁ w₂ e₁ v₂ a₃ z₃ f₃ w₃ w₄ e₃ v₄.
+        let m = m₄ (a₁ || z₁) (skip-left a₁ z₁ f₁) w₁ e₁ w₂ v₂ (a₃ || z₃) (skip-right a₃ z₃ f₃) w₃ e₃ w₄ v₄ in (
+          (
+            words-list N t b x w fits w₄ A B m bd S lim,
+            words-left N t b x w fits w₄ A B m bd S lim UA,
+            left-sums N t b x w fits w₄ A B m bd S lim UB,
+            up-sums N t b x w fits w₄ A B m bd S lim UB UA,
+            right-sums N t b x w fits w₄ A B m bd S lim UA lim₂,
+          ),
+          (
+            λ q. left-holds N t b x w fits w₄ A B m certain (walk-certain plan t (2 * p) (part mask b t) TA (toLeft h L (message TB)) a₁ z₁ f₁ q),
+            (
+              λ q. right-holds N t b x w fits w₄ A B m softZero (walk-zero plan t (2 * p + 1) (part mask (b + 2 ^ t) t) TB (toRight h L (message A)) a₃ z₃ f₃ q),
+              listed₄ (a₁ || z₁) (skip-left a₁ z₁ f₁) w₁ e₁ w₂ v₂ (a₃ || z₃) (skip-right a₃ z₃ f₃) w₃ e₃ w₄ v₄,
+            ),
+          ),
+        );
+    done = λ a₁ z₁ f₁ w₁ w₂ e₁ v₂ a₃ z₃ f₃ w₃ w₄ e₃ v₄ w₅ e₅. visited (a₁ || z₁) (skip-left a₁ z₁ f₁) w₁ e₁ w₂ v₂ (a₃ || z₃) (skip-right a₃ z₃ f₃) w₃ e₃ w₄ v₄ w₅ e₅;
   }
 
 -- the same in the code's terms

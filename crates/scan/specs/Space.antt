@@ -9,7 +9,7 @@ use lib.IntN.{ℤ, natAbs}
 use lib.Dec.{T}
 use lib.ListN.{length, take, drop}
 use Rattle.model.specs.Scan.{Tree, leaf, node, sweeps}
-use Rattle.model.specs.Kinds.{Kind, kindOf, shortcut}
+use Rattle.model.specs.Kinds.{Kind, rate-0, rate-1, kindOf, isKind, shortcut}
 use Rattle.model.specs.Plans.{isCut, isRate01, wellCut, walk, Stays, Allowed}
 use Rattle.model.specs.Bounds.{SmallAll, Held, limit}
 use Rattle.words.specs.Words.{word, soft, stored}
@@ -26,6 +26,12 @@ part mask b t = take (2 ^ t) (drop b mask)
 -- a cut rate-0 or rate-1 node: its message does not depend on what it is handed
 abbrev pub constant : List ℕ → ℕ → ℕ → List ℕ → Bool
 constant plan m p mask = isCut plan p && isRate01 (kindOf m mask)
+
+-- what is known of node p's message whatever the node is handed: whether it is certain everywhere, as a cut rate-0 node's is, or 0 everywhere, as a cut
+-- rate-1 node's
+pub record FixedAs (plan : List ℕ) (m p : ℕ) (mask : List ℕ) (certain zero : Bool) : Type 0 where
+  pub as-certain : certain ≡ (isCut plan p && isKind rate-0 (kindOf m mask))
+  pub as-zero : zero ≡ (isCut plan p && isKind rate-1 (kindOf m mask))
 
 -- what a visit of node p at stage t, of s positions from b on, with its incoming list at x, requires.
 -- Messages below a cut are not mentioned.

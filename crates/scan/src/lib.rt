@@ -1,6 +1,8 @@
 // The planned walk over one lent workspace.
 use kinds::Kind;
 use kinds::cut_kind;
+use kinds::is_rate_one;
+use kinds::is_rate_zero;
 use messages::rate_one_message;
 use messages::rate_zero_message;
 use messages::rep_message;
@@ -13,22 +15,25 @@ use words::fill;
 use words::leaf_words;
 use words::load_llrs;
 use words::message_by_list;
+use words::message_left_certain;
+use words::message_right_zero;
 use words::node_message;
+use words::plus_at;
 use words::plus_box;
 ghost use mathlib.Core.Path.{_≡_};
 ghost use Prim.Native.Nat.{_+_, _*_, _≤_, _<_};
 ghost use lib.ListN.{length, take, drop};
 ghost use lib.IntN.{pos};
 ghost use mathlib.Core.List.{map};
-ghost use Rattle.model.specs.Soft.{finite};
+ghost use Rattle.model.specs.Soft.{finite, mark};
 ghost use Rattle.model.specs.Scan.{scan};
 ghost use Rattle.words.specs.Words.{Incoming, stored, write, Holds, boxPlus, plusBox, Words, Sums, BoxSums, FiniteBoxSums};
 ghost use Rattle.model.specs.Kinds.{kindOf, isSome};
 ghost use Rattle.model.specs.Plans.{isCut, isRate01};
 ghost use lib.Dec.{T};
-ghost use mathlib.Core.Bool.{true, false, cond};
+ghost use mathlib.Core.Bool.{true, false, cond, _||_};
 ghost use Rattle.kinds.specs.Runs.{kindNamed};
-ghost use Rattle.scan.specs.Space.{constant, Room, Visited, cutWords, Ready, Swept, Decodable};
+ghost use Rattle.scan.specs.Space.{FixedAs, Room, Visited, cutWords, Ready, Swept, Decodable};
 
 // The message of a cut node, by its kind. A rate-0 or rate-1 node does not look at what it is handed.
 fn cut_message(w: &mut [i32], k: Kind, m: usize, x: usize, s: usize)
@@ -47,67 +52,93 @@ fn cut_message(w: &mut [i32], k: Kind, m: usize, x: usize, s: usize)
     }
 }
 
-fn is_rate_01(k: Kind) -> bool
-    ensures { λ r. ⌜ r ≡ isRate01 (kindNamed k) ⌝ }
-{
-    match k {
-        Kind::Rate0 => true,
-        Kind::Rate1 => true,
-        Kind::Rep => false,
-        Kind::Spc => false,
-        Kind::TypeI => false,
-        Kind::TypeIII => false,
-        Kind::NoKind => false,
-    }
+// What is known of a node's message whatever the node is handed: it is certain everywhere, or 0 everywhere.
+struct Fixed {
+    certain: bool,
+    zero: bool,
 }
 
-// Whether node q, of s positions from b on, is a cut rate-0 or rate-1 node, whose message does not depend on what it is handed.
-fn is_constant(plan: &[u8], mask: &[u8], q: usize, b: usize, s: usize) -> bool
+// A cut rate-0 node's message is certain, a cut rate-1 node's is 0. Node q has s positions from b on.
+fn fixed_message(plan: &[u8], mask: &[u8], q: usize, b: usize, s: usize) -> Fixed
     requires { ⌜ (q < length (now plan)) × (b + s ≤ length (now mask)) ⌝ }
     requires { ⌜ (isCut (now plan) q ≡ true → T (isSome (kindOf s (take s (drop b (now mask)))))) ⌝ }
-    ensures { λ r. ⌜ r ≡ constant (now (plan .entry)) s q (take s (drop b (now (mask .entry)))) ⌝ }
+    ensures { λ r. ⌜ FixedAs (now (plan .entry)) s q (take s (drop b (now (mask .entry)))) (r .certain) (r .zero) ⌝ }
 {
     if plan[q] == 1 {
         let e = b + s;
-        is_rate_01(cut_kind(&mask[b..e]))
+        let certain = is_rate_zero(&mask[b..e]);
+        let zero = is_rate_one(&mask[b..e]);
+        Fixed {
+            certain: certain,
+            zero: zero,
+        }
     } else {
-        false
+        Fixed {
+            certain: false,
+            zero: false,
+        }
     }
 }
 
-// The incoming list of the left child, at c: the node's is at x, the right child's message at r. Not stored where the child is constant.
-fn left_list(w: &mut [i32], skip: bool, c: usize, x: usize, r: usize, h: usize)
+fn is_fixed(m: Fixed) -> bool
+    ensures { λ r. ⌜ r ≡ (m .certain || m .zero) ⌝ }
+{
+    if m.certain { true } else { m.zero }
+}
+
+// The incoming list of the left child, at c: the node's is at x, the right child's message at r. Not stored where the child's message is fixed.
+fn left_list(w: &mut [i32], left: Fixed, c: usize, x: usize, r: usize, h: usize)
     requires { ⌜ (r + h ≤ x) × (x + (h + h) ≤ c) × (c + h ≤ length (now w)) ⌝ }
     requires { ⌜ Words (now w) x h × Sums (now w) (x + h) r h ⌝ }
-    ensures { λ _. ⌜ now (w .exit) ≡ cond skip (now (w .entry)) (write (now (w .entry)) c h (boxPlus (now (w .entry)) x (x + h) r)) ⌝ }
+    ensures { λ _. ⌜ now (w .exit) ≡ cond (left .certain || left .zero) (now (w .entry)) (write (now (w .entry)) c h (boxPlus (now (w .entry)) x (x + h) r)) ⌝ }
 {
-    if !skip {
+    if !is_fixed(left) {
         let y = x + h;
         box_plus(w, c, x, y, r, h);
     }
 }
 
-// The incoming list of the right child, at c: the node's is at x, the left child's message at l. Not stored where the child is constant.
-fn right_list(w: &mut [i32], skip: bool, c: usize, x: usize, l: usize, h: usize)
+// The incoming list of the right child, at c: the node's is at x, the left child's message at l. Not stored where the child's message is fixed.
+fn right_list(w: &mut [i32], left: Fixed, right: Fixed, c: usize, x: usize, l: usize, h: usize)
     requires { ⌜ (l + h ≤ x) × (x + (h + h) ≤ c) × (c + h ≤ length (now w)) ⌝ }
     requires { ⌜ Words (now w) x h × Words (now w) l h × FiniteBoxSums (now w) x l (x + h) h ⌝ }
-    ensures { λ _. ⌜ now (w .exit) ≡ cond skip (now (w .entry)) (write (now (w .entry)) c h (plusBox (now (w .entry)) x l (x + h))) ⌝ }
+    requires { ⌜ (left .certain ≡ true → Holds (now w) l h (λ k. pos mark)) ⌝ }
+    ensures { λ _. ⌜ now (w .exit) ≡ cond (right .certain || right .zero) (now (w .entry)) (write (now (w .entry)) c h (plusBox (now (w .entry)) x l (x + h))) ⌝ }
 {
-    if !skip {
+    if !is_fixed(right) {
         let y = x + h;
-        plus_box(w, c, x, l, y, h);
+        if left.certain {
+            plus_at(w, c, x, y, h);
+        } else {
+            plus_box(w, c, x, l, y, h);
+        }
     }
 }
 
 // The node's message, at m: its incoming list is at x, its children's messages at l and l + h. The right child's incoming list is still at c, unless
-// that child is constant.
-fn own_message(w: &mut [i32], skip: bool, m: usize, x: usize, l: usize, c: usize, h: usize)
+// that child's message is fixed.
+fn own_message(
+    w: &mut [i32],
+    left: Fixed,
+    right: Fixed,
+    m: usize,
+    x: usize,
+    l: usize,
+    c: usize,
+    h: usize,
+)
     requires { ⌜ (l + (h + h) ≤ m) × (m + (h + h) ≤ x) × (x + (h + h) ≤ c) × (c + h ≤ length (now w)) ⌝ }
-    requires { ⌜ Words (now w) x h × Words (now w) l h × Sums (now w) (x + h) (l + h) h × BoxSums (now w) x l (l + h) h ⌝ }
-    requires { ⌜ FiniteBoxSums (now w) x l (x + h) h × (skip ≡ false → Holds (now w) c h (plusBox (now w) x l (x + h))) ⌝ }
+    requires { ⌜ Words (now w) x h × Words (now w) l h × Sums (now w) (x + h) (l + h) h × BoxSums (now w) x l (l + h) h × FiniteBoxSums (now w) x l (x + h) h ⌝ }
+    requires { ⌜ (left .certain ≡ true → Holds (now w) l h (λ k. pos mark)) ⌝ }
+    requires { ⌜ (right .zero ≡ true → Holds (now w) (l + h) h (λ k. pos 0)) ⌝ }
+    requires { ⌜ ((right .certain || right .zero) ≡ false → Holds (now w) c h (plusBox (now w) x l (x + h))) ⌝ }
     ensures { λ _. ⌜ now (w .exit) ≡ write (write (now (w .entry)) m h (boxPlus (now (w .entry)) l (x + h) (l + h))) (m + h) h (plusBox (now (w .entry)) x l (l + h)) ⌝ }
 {
-    if skip {
+    if left.certain {
+        message_left_certain(w, m, x, l, h);
+    } else if right.zero {
+        message_right_zero(w, m, x, l, h);
+    } else if right.certain {
         node_message(w, m, x, l, h);
     } else {
         message_by_list(w, m, x, l, c, h);
@@ -143,13 +174,13 @@ fn visit(
     let c = x + s;
     let q = 2 * p;
     let d = b + h;
-    let skip_left = is_constant(plan, mask, q, b, h);
-    left_list(work, skip_left, c, x, r, h);
+    let left = fixed_message(plan, mask, q, b, h);
+    left_list(work, left, c, x, r, h);
     visit(work, plan, mask, n, u, h, q, b, c);
-    let skip_right = is_constant(plan, mask, q + 1, d, h);
-    right_list(work, skip_right, c, x, l, h);
+    let right = fixed_message(plan, mask, q + 1, d, h);
+    right_list(work, left, right, c, x, l, h);
     visit(work, plan, mask, n, u, h, q + 1, d, c);
-    own_message(work, skip_right, m, x, l, c, h);
+    own_message(work, left, right, m, x, l, c, h);
 }
 
 // One sweep along the plan: a visit of the root with the incoming list that stands past the rows of messages.

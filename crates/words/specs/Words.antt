@@ -58,6 +58,9 @@ Holds w a n f = (k : ℕ) → k < n → word w (a + k) ≡ f k
 abbrev pub boxAt : List ℤ → ℕ → ℕ → ℕ → ℤ
 boxAt w a b k = boxWord (word w (a + k)) (word w (b + k))
 
+abbrev pub plusAt : List ℤ → ℕ → ℕ → ℕ → ℤ
+plusAt w a b k = addWord (word w (a + k)) (word w (b + k))
+
 abbrev pub boxPlus : List ℤ → ℕ → ℕ → ℕ → ℕ → ℤ
 boxPlus w a b c k = boxWord (word w (a + k)) (addWord (word w (b + k)) (word w (c + k)))
 
@@ -78,6 +81,9 @@ Added a b = (natAbs a < mark) × Word (addWord a b)
 -- both are finite, and the sum is a word
 abbrev pub Finite : ℤ → ℤ → Type 0
 Finite a b = (natAbs a < mark) × (natAbs b < mark) × Word (addWord a b)
+
+abbrev pub FiniteSums : List ℤ → ℕ → ℕ → ℕ → Type 0
+FiniteSums w a b h = (k : ℕ) → k < h → Finite (word w (a + k)) (word w (b + k))
 
 abbrev pub Sums : List ℤ → ℕ → ℕ → ℕ → Type 0
 Sums w b c h = (k : ℕ) → k < h → Added (word w (b + k)) (word w (c + k))

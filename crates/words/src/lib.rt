@@ -2,12 +2,12 @@
 ghost use mathlib.Core.Path.{_≡_};
 ghost use mathlib.Core.Bool.{cond};
 ghost use Prim.Native.Nat.{ℕ, _+_, _<_, _≤_};
-ghost use lib.IntN.{_-ℤ_};
+ghost use lib.IntN.{pos, _-ℤ_};
 ghost use lib.Signed.{ltZ};
 ghost use lib.ListN.{length, getD};
-ghost use Rattle.model.specs.Soft.{wordOf};
+ghost use Rattle.model.specs.Soft.{mark, wordOf};
 ghost use Rattle.model.specs.Scan.{leafValue};
-ghost use Rattle.words.specs.Words.{boxWord, addWord, Word, Added, word, write, Apart, Holds, boxAt, boxPlus, plusBox, plusFront, Words, Finite, Sums, BoxSums, FiniteBoxSums};
+ghost use Rattle.words.specs.Words.{boxWord, addWord, Word, Added, word, write, Apart, Holds, boxAt, plusAt, boxPlus, plusBox, plusFront, Words, Finite, FiniteSums, Sums, BoxSums, FiniteBoxSums};
 
 fn min_word(a: i32, b: i32) -> i32
     ensures { λ r. ⌜ r ≡ cond (ltZ a b) a b ⌝ }
@@ -89,6 +89,20 @@ fn box_at(w: &mut [i32], d: usize, a: usize, b: usize, h: usize)
     }
 }
 
+// w[d + k] = w[a + k] + w[b + k]
+pub fn plus_at(w: &mut [i32], d: usize, a: usize, b: usize, h: usize)
+    requires { ⌜ (d + h ≤ length (now w)) × (a + h ≤ length (now w)) × (b + h ≤ length (now w)) ⌝ }
+    requires { ⌜ Apart h d a × Apart h d b ⌝ }
+    requires { ⌜ FiniteSums (now w) a b h ⌝ }
+    ensures { λ _. ⌜ now (w .exit) ≡ write (now (w .entry)) d h (plusAt (now (w .entry)) a b) ⌝ }
+{
+    let mut k = 0;
+    while k < h {
+        w[d + k] = add_finite(w[a + k], w[b + k]);
+        k += 1;
+    }
+}
+
 // part[d + k] = part[d + k] + part[k]
 fn add_front(part: &mut [i32], d: usize, h: usize)
     requires { ⌜ (h ≤ d) × (d + h ≤ length (now part)) ⌝ }
@@ -155,6 +169,45 @@ pub fn message_by_list(w: &mut [i32], m: usize, x: usize, l: usize, c: usize, h:
         let right = w[r + k];
         w[m + k] = box_words(left, add_words(high, right));
         w[g + k] = add_words(sub_words(list, high), right);
+        k += 1;
+    }
+}
+
+// The same message, where the left child's is certain everywhere: a box with it is the other word.
+pub fn message_left_certain(w: &mut [i32], m: usize, x: usize, l: usize, h: usize)
+    requires { ⌜ (l + (h + h) ≤ m) × (m + (h + h) ≤ x) × (x + (h + h) ≤ length (now w)) ⌝ }
+    requires { ⌜ Words (now w) x h × Sums (now w) (x + h) (l + h) h × BoxSums (now w) x l (l + h) h × Holds (now w) l h (λ k. pos mark) ⌝ }
+    ensures { λ _. ⌜ now (w .exit) ≡ write (write (now (w .entry)) m h (boxPlus (now (w .entry)) l (x + h) (l + h))) (m + h) h (plusBox (now (w .entry)) x l (l + h)) ⌝ }
+{
+    let y = x + h;
+    let r = l + h;
+    let g = m + h;
+    let mut k = 0;
+    while k < h {
+        let first = w[x + k];
+        let second = w[y + k];
+        let right = w[r + k];
+        w[m + k] = add_words(second, right);
+        w[g + k] = add_words(first, right);
+        k += 1;
+    }
+}
+
+// The same message, where the right child's is 0 everywhere: nothing is right.
+pub fn message_right_zero(w: &mut [i32], m: usize, x: usize, l: usize, h: usize)
+    requires { ⌜ (l + (h + h) ≤ m) × (m + (h + h) ≤ x) × (x + (h + h) ≤ length (now w)) ⌝ }
+    requires { ⌜ Words (now w) x h × Words (now w) (x + h) h × Words (now w) l h × Holds (now w) (l + h) h (λ k. pos 0) ⌝ }
+    ensures { λ _. ⌜ now (w .exit) ≡ write (write (now (w .entry)) m h (boxPlus (now (w .entry)) l (x + h) (l + h))) (m + h) h (plusBox (now (w .entry)) x l (l + h)) ⌝ }
+{
+    let y = x + h;
+    let g = m + h;
+    let mut k = 0;
+    while k < h {
+        let first = w[x + k];
+        let second = w[y + k];
+        let left = w[l + k];
+        w[m + k] = box_words(left, second);
+        w[g + k] = box_words(first, left);
         k += 1;
     }
 }

@@ -24,7 +24,7 @@ use Rattle.scan.proofs.visit.Kinds as visit-kinds
 use Rattle.scan.proofs.+visit.Lts-visit as visit-lts
 use Rattle.kinds.proofs.cut_kind.Reads as cut-kind-reads
 use Rattle.scan.proofs.cut_message.Reads as cut-message-reads
-use Rattle.scan.proofs.is_constant.Reads as is-constant-reads
+use Rattle.scan.proofs.fixed_message.Reads as fixed-message-reads
 use Rattle.scan.proofs.left_list.Reads as left-list-reads
 use Rattle.scan.proofs.right_list.Reads as right-list-reads
 use Rattle.scan.proofs.own_message.Reads as own-message-reads
@@ -40,7 +40,7 @@ visit-below t = and 3 visit-kinds.ps (falls 3 visit-kinds.ps _<_ μ-visit t) vis
 
 -- what the callees ask and ensure
 abbrev around : ℕ → visit-lts.Claims
-around t = (cut-kind-reads.Asked, cut-kind-reads.Learnt, cut-message-reads.Asked, cut-message-reads.Learnt, is-constant-reads.Asked, is-constant-reads.Learnt, left-list-reads.Asked, left-list-reads.Learnt, visit-below t, visit.Post, right-list-reads.Asked, right-list-reads.Learnt, own-message-reads.Asked, own-message-reads.Learnt)
+around t = (cut-kind-reads.Asked, cut-kind-reads.Learnt, cut-message-reads.Asked, cut-message-reads.Learnt, fixed-message-reads.Asked, fixed-message-reads.Learnt, left-list-reads.Asked, left-list-reads.Learnt, visit-below t, visit.Post, right-list-reads.Asked, right-list-reads.Learnt, own-message-reads.Asked, own-message-reads.Learnt)
 
 module _ (t : ℕ) where
   abbrev Uncut : Type 0
@@ -193,8 +193,8 @@ module _ (t : ℕ) where
       let el = c in
       let g = numbers el in omega arith
 
-  visit-is-constant-requires : visit-lts.Need-is-constant-requires (around t) (visit-at t) visit.Post
-  visit-is-constant-requires c κs =
+  visit-fixed-message-requires : visit-lts.Need-fixed-message-requires (around t) (visit-at t) visit.Post
+  visit-fixed-message-requires c κs =
       let start = c .before .before .before .before in
       let a = start .args in
       let room = start .pre .1 in
@@ -219,10 +219,10 @@ module _ (t : ℕ) where
       let el = c .before .before .before .before .before in
       let g = numbers el in
       let len = c .before .before .left-list .kept .0 in
-      (omega arith, running el .two (c .before .before .before .before .is-constant .result) (c .before .before .before .before .is-constant .ensures) (c .before .before .left-list .last .0) (c .before .before .left-list .ensures))
+      (omega arith, running el .two (c .before .before .before .before .fixed-message .result .certain) (c .before .before .before .before .fixed-message .result .zero) (c .before .before .before .before .fixed-message .ensures) (c .before .before .left-list .last .0) (c .before .before .left-list .ensures))
 
-  visit-add-is-constant : visit-lts.Need-add-is-constant (around t) (visit-at t) visit.Post
-  visit-add-is-constant c =
+  visit-add-fixed-message : visit-lts.Need-add-fixed-message (around t) (visit-at t) visit.Post
+  visit-add-fixed-message c =
       let start = c .before .before .before .before .before .before .before .before .before .before .before in
       let a = start .args in
       let room = start .pre .1 in
@@ -231,8 +231,8 @@ module _ (t : ℕ) where
       let len = c .before .visit .kept .0 ∙ c .before .before .before .before .left-list .kept .0 in
       omega arith
 
-  visit-is-constant-requires-2 : visit-lts.Need-is-constant-requires-2 (around t) (visit-at t) visit.Post
-  visit-is-constant-requires-2 c κs =
+  visit-fixed-message-requires-2 : visit-lts.Need-fixed-message-requires-2 (around t) (visit-at t) visit.Post
+  visit-fixed-message-requires-2 c κs =
       let start = c .before .before .before .before .before .before .before .before .before .before .before in
       let a = start .args in
       let room = start .pre .1 in
@@ -249,7 +249,7 @@ module _ (t : ℕ) where
       let el = c .before .before .before .before .before .before .before .before .before in
       let g = numbers el in
       let len = c .before .before .before .visit .kept .0 ∙ c .before .before .before .before .before .before .left-list .kept .0 in
-      ((omega arith, omega arith, omega arith), running el .three (c .before .before .before .before .before .before .before .before .is-constant .result) (c .before .before .before .before .before .before .before .before .is-constant .ensures) (c .before .before .before .before .before .before .left-list .last .0) (c .before .before .before .visit .last .0) (c .before .before .before .before .before .before .left-list .ensures) (c .before .before .before .visit .ensures))
+      ((omega arith, omega arith, omega arith), running el .three (c .before .before .before .before .before .before .before .before .fixed-message .result .certain) (c .before .before .before .before .before .before .before .before .fixed-message .result .zero) (c .before .before .before .before .before .before .before .before .fixed-message .ensures) (c .before .before .before .before .before .before .left-list .last .0) (c .before .before .before .visit .last .0) (c .before .before .before .before .before .before .left-list .ensures) (c .before .before .before .visit .ensures))
 
   visit-add-visit : visit-lts.Need-add-visit (around t) (visit-at t) visit.Post
   visit-add-visit c =
@@ -269,7 +269,7 @@ module _ (t : ℕ) where
       let el = c .before .before .before .before .before .before .before .before .before .before .before .before in
       let g = numbers el in
       let len = c .before .before .right-list .kept .0 ∙ c .before .before .before .before .before .before .visit .kept .0 ∙ c .before .before .before .before .before .before .before .before .before .left-list .kept .0 in
-      (omega arith, running el .four (c .before .before .before .before .before .before .before .before .before .before .before .is-constant .result) (c .before .before .before .before .before .before .before .before .before .before .before .is-constant .ensures) (c .before .before .before .before .before .before .before .before .before .left-list .last .0) (c .before .before .before .before .before .before .visit .last .0) (c .before .before .before .before .before .before .before .before .before .left-list .ensures) (c .before .before .before .before .before .before .visit .ensures) (c .before .before .before .before .is-constant2 .result) (c .before .before .before .before .is-constant2 .ensures) (c .before .before .right-list .last .0) (c .before .before .right-list .ensures))
+      (omega arith, running el .four (c .before .before .before .before .before .before .before .before .before .before .before .fixed-message .result .certain) (c .before .before .before .before .before .before .before .before .before .before .before .fixed-message .result .zero) (c .before .before .before .before .before .before .before .before .before .before .before .fixed-message .ensures) (c .before .before .before .before .before .before .before .before .before .left-list .last .0) (c .before .before .before .before .before .before .visit .last .0) (c .before .before .before .before .before .before .before .before .before .left-list .ensures) (c .before .before .before .before .before .before .visit .ensures) (c .before .before .before .before .fixed-message2 .result .certain) (c .before .before .before .before .fixed-message2 .result .zero) (c .before .before .before .before .fixed-message2 .ensures) (c .before .before .right-list .last .0) (c .before .before .right-list .ensures))
 
   visit-own-message-requires : visit-lts.Need-own-message-requires (around t) (visit-at t) visit.Post
   visit-own-message-requires c κs =
@@ -279,7 +279,7 @@ module _ (t : ℕ) where
       let el = c .before .before .before .before .before .before .before .before .before .before .before .before .before .before .before in
       let g = numbers el in
       let len = c .before .before .visit2 .kept .0 ∙ c .before .before .before .before .before .right-list .kept .0 ∙ c .before .before .before .before .before .before .before .before .before .visit .kept .0 ∙ c .before .before .before .before .before .before .before .before .before .before .before .before .left-list .kept .0 in
-      ((omega arith, omega arith, omega arith, omega arith), running el .five (c .before .before .before .before .before .before .before .before .before .before .before .before .before .before .is-constant .result) (c .before .before .before .before .before .before .before .before .before .before .before .before .before .before .is-constant .ensures) (c .before .before .before .before .before .before .before .before .before .before .before .before .left-list .last .0) (c .before .before .before .before .before .before .before .before .before .visit .last .0) (c .before .before .before .before .before .before .before .before .before .before .before .before .left-list .ensures) (c .before .before .before .before .before .before .before .before .before .visit .ensures) (c .before .before .before .before .before .before .before .is-constant2 .result) (c .before .before .before .before .before .before .before .is-constant2 .ensures) (c .before .before .before .before .before .right-list .last .0) (c .before .before .visit2 .last .0) (c .before .before .before .before .before .right-list .ensures) (c .before .before .visit2 .ensures))
+      ((omega arith, omega arith, omega arith, omega arith), running el .five (c .before .before .before .before .before .before .before .before .before .before .before .before .before .before .fixed-message .result .certain) (c .before .before .before .before .before .before .before .before .before .before .before .before .before .before .fixed-message .result .zero) (c .before .before .before .before .before .before .before .before .before .before .before .before .before .before .fixed-message .ensures) (c .before .before .before .before .before .before .before .before .before .before .before .before .left-list .last .0) (c .before .before .before .before .before .before .before .before .before .visit .last .0) (c .before .before .before .before .before .before .before .before .before .before .before .before .left-list .ensures) (c .before .before .before .before .before .before .before .before .before .visit .ensures) (c .before .before .before .before .before .before .before .fixed-message2 .result .certain) (c .before .before .before .before .before .before .before .fixed-message2 .result .zero) (c .before .before .before .before .before .before .before .fixed-message2 .ensures) (c .before .before .before .before .before .right-list .last .0) (c .before .before .visit2 .last .0) (c .before .before .before .before .before .right-list .ensures) (c .before .before .visit2 .ensures))
 
   visit-same-length-2 : visit-lts.Need-same-length-2 (around t) (visit-at t) visit.Post
   visit-same-length-2 c = c .before .own-message .kept .0 ∙ c .before .before .before .before .visit2 .kept .0 ∙ c .before .before .before .before .before .before .before .right-list .kept .0 ∙ c .before .before .before .before .before .before .before .before .before .before .before .visit .kept .0 ∙ c .before .before .before .before .before .before .before .before .before .before .before .before .before .before .left-list .kept .0
@@ -287,7 +287,7 @@ module _ (t : ℕ) where
   visit-returns-2 : visit-lts.Need-returns-2 (around t) (visit-at t) visit.Post
   visit-returns-2 c =
       let el = c .before .before .before .before .before .before .before .before .before .before .before .before .before .before .before .before .before in
-      running el .done (c .before .before .before .before .before .before .before .before .before .before .before .before .before .before .before .before .is-constant .result) (c .before .before .before .before .before .before .before .before .before .before .before .before .before .before .before .before .is-constant .ensures) (c .before .before .before .before .before .before .before .before .before .before .before .before .before .before .left-list .last .0) (c .before .before .before .before .before .before .before .before .before .before .before .visit .last .0) (c .before .before .before .before .before .before .before .before .before .before .before .before .before .before .left-list .ensures) (c .before .before .before .before .before .before .before .before .before .before .before .visit .ensures) (c .before .before .before .before .before .before .before .before .before .is-constant2 .result) (c .before .before .before .before .before .before .before .before .before .is-constant2 .ensures) (c .before .before .before .before .before .before .before .right-list .last .0) (c .before .before .before .before .visit2 .last .0) (c .before .before .before .before .before .before .before .right-list .ensures) (c .before .before .before .before .visit2 .ensures) (c .before .own-message .last .0) (c .before .own-message .ensures)
+      running el .done (c .before .before .before .before .before .before .before .before .before .before .before .before .before .before .before .before .fixed-message .result .certain) (c .before .before .before .before .before .before .before .before .before .before .before .before .before .before .before .before .fixed-message .result .zero) (c .before .before .before .before .before .before .before .before .before .before .before .before .before .before .before .before .fixed-message .ensures) (c .before .before .before .before .before .before .before .before .before .before .before .before .before .before .left-list .last .0) (c .before .before .before .before .before .before .before .before .before .before .before .visit .last .0) (c .before .before .before .before .before .before .before .before .before .before .before .before .before .before .left-list .ensures) (c .before .before .before .before .before .before .before .before .before .before .before .visit .ensures) (c .before .before .before .before .before .before .before .before .before .fixed-message2 .result .certain) (c .before .before .before .before .before .before .before .before .before .fixed-message2 .result .zero) (c .before .before .before .before .before .before .before .before .before .fixed-message2 .ensures) (c .before .before .before .before .before .before .before .right-list .last .0) (c .before .before .before .before .visit2 .last .0) (c .before .before .before .before .before .before .before .right-list .ensures) (c .before .before .before .before .visit2 .ensures) (c .before .own-message .last .0) (c .before .own-message .ensures)
 
 pub +visit-spec : {M : Type 1} → statement M
 +visit-spec = close μ-visit λ t. visit-lts.spec (around t) (visit-at t) visit.Post
@@ -309,11 +309,11 @@ pub +visit-spec : {M : Type 1} → statement M
     (visit-add-c t)
     (visit-mul-q t)
     (visit-add-d t)
-    (visit-is-constant-requires t)
+    (visit-fixed-message-requires t)
     (visit-left-list-requires t)
     (visit-visit-requires t)
-    (visit-add-is-constant t)
-    (visit-is-constant-requires-2 t)
+    (visit-add-fixed-message t)
+    (visit-fixed-message-requires-2 t)
     (visit-right-list-requires t)
     (visit-add-visit t)
     (visit-visit-requires-2 t)

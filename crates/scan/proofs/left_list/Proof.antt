@@ -10,12 +10,15 @@ use borrow.Author.Needs.{needs}
 use Rattle.scan.proofs.left_list.Statement.{statement}
 use Rattle.scan.proofs.left_list.Tie as tie
 
+is-fixed-requires : tie.Need-is-fixed-requires
+is-fixed-requires c κs = search needs
+
 add-y : tie.Need-add-y
 add-y c = search needs
 
 box-plus-requires : tie.Need-box-plus-requires
 box-plus-requires c κs =
-    let start = c .before .before in
+    let start = c .before .before .before in
     ((omega arith, omega arith, omega arith, omega arith), ((inr (omega arith), inr (omega arith), inr (omega arith)), start .pre .1))
 
 same-length : tie.Need-same-length
@@ -23,13 +26,15 @@ same-length c = search needs
 
 returns : tie.Need-returns
 returns c =
-    let a = c .before .before .before .before .args in
-    c .before .box-plus .ensures ∙ sym (ap (λ (b : Bool). cond b (a .w .now) (write (a .w .now) (a .c) (a .h) (boxPlus (a .w .now) (a .x) (a .x + a .h) (a .r)))) (not-true (a .skip) (c .before .before .before .if1 .taken)))
+    let test = c .before .before .before in
+    let a = test .before .before .args in
+    c .before .box-plus .ensures ∙ sym (ap (λ (b : Bool). cond b (a .w .now) (write (a .w .now) (a .c) (a .h) (boxPlus (a .w .now) (a .x) (a .x + a .h) (a .r)))) (sym (test .before .is-fixed .ensures) ∙ not-true _ (test .if1 .taken)))
 
 returns-2 : tie.Need-returns-2
 returns-2 c =
-    let a = c .before .args in
-    sym (ap (λ (b : Bool). cond b (a .w .now) (write (a .w .now) (a .c) (a .h) (boxPlus (a .w .now) (a .x) (a .x + a .h) (a .r)))) (not-false (a .skip) (c .if1 .left)))
+    let a = c .before .before .args in
+    sym (ap (λ (b : Bool). cond b (a .w .now) (write (a .w .now) (a .c) (a .h) (boxPlus (a .w .now) (a .x) (a .x + a .h) (a .r)))) (sym (c .before .is-fixed .ensures) ∙ not-false _ (c .if1 .left)))
 
 pub left-list-spec : {M : Type 1} → statement M
-left-list-spec = tie.close (tie.spec add-y box-plus-requires same-length returns returns-2)
+left-list-spec =
+    tie.close (tie.spec is-fixed-requires add-y box-plus-requires same-length returns returns-2)

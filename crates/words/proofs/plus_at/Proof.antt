@@ -1,0 +1,119 @@
+-- `words::plus_at` meets its contract. The loop's invariant: the first k sums are stored. Assumes nothing.
+use mathlib.Core.Path.{_≡_, refl, sym, ap, ap₂, _∙_, subst₂}
+use lib.IntN.{pos}
+use Prim.Native.Nat.{ℕ, _+_, _-_, _≤_}
+use native.Mathlib.Omega.{arith}
+use native.Mathlib.Nat.{le-antisymm}
+use lib.ListN.{length, length-set}
+use mir.Val.{toZ, ofZ}
+use mir.Syntax.{w32}
+use Rattle.words.specs.Words.{word, write, Finite, addWord, plusAt}
+use Rattle.words.proofs.Signed.{back}
+use Rattle.words.proofs.Store.{store-none, store-more, source}
+use borrow.Author.Needs.{needs}
+use Rattle.words.proofs.plus_at.Statement.{statement}
+use Rattle.words.proofs.plus_at.Tie as tie
+
+abbrev Inv-loop : tie.InvT-loop
+Inv-loop w₀ d a b h k₀ w k = (k ≤ h) × (w ≡ write w₀ d k (plusAt w₀ a b)) × (length w ≡ length w₀)
+
+abbrev μ-loop : tie.MeasureT-loop
+μ-loop w₀ d a b h k₀ w k = h - k
+
+-- ---- what a turn reads, by the words at entry
+first-is : (c : tie.After-add-finite-arg Inv-loop μ-loop) → let at-loop = c .before .before in let a = at-loop .before .args in
+    toZ w32 (ofZ w32 (word (at-loop .loop .w) (a .a + at-loop .loop .k))) ≡ word (a .w .now) (a .a + at-loop .loop .k)
+first-is c =
+    let at-loop = c .before .before in
+    let start = at-loop .before in
+    back (c .add-finite-arg .given) ∙ source (pos 0) (start .args .w .now) (at-loop .loop .w) _ _ _ _ (start .args .a) (at-loop .loop .inv .1) (start .pre .1 .0 .0) (c .before .loop-test .taken)
+
+second-is : (c : tie.After-add-finite-arg2 Inv-loop μ-loop) → let at-loop = c .before .before .before in let a = at-loop .before .args in
+    toZ w32 (ofZ w32 (word (at-loop .loop .w) (a .b + at-loop .loop .k))) ≡ word (a .w .now) (a .b + at-loop .loop .k)
+second-is c =
+    let at-loop = c .before .before .before in
+    let start = at-loop .before in
+    back (c .add-finite-arg2 .given) ∙ source (pos 0) (start .args .w .now) (at-loop .loop .w) _ _ _ _ (start .args .b) (at-loop .loop .inv .1) (start .pre .1 .0 .1) (c .before .before .loop-test .taken)
+
+loop-holds : tie.Need-loop-holds Inv-loop μ-loop
+loop-holds c = (omega arith, store-none (pos 0) _ _ _, refl)
+
+add-add-finite : tie.Need-add-add-finite Inv-loop μ-loop
+add-add-finite c = search needs
+
+mul-add-finite : tie.Need-mul-add-finite Inv-loop μ-loop
+mul-add-finite c = search needs
+
+slice-copy-out-add-finite : tie.Need-slice-copy-out-add-finite Inv-loop μ-loop
+slice-copy-out-add-finite c = search needs
+
+add-add-finite-2 : tie.Need-add-add-finite-2 Inv-loop μ-loop
+add-add-finite-2 c = search needs
+
+mul-add-finite-2 : tie.Need-mul-add-finite-2 Inv-loop μ-loop
+mul-add-finite-2 c = search needs
+
+slice-copy-out-add-finite-2 : tie.Need-slice-copy-out-add-finite-2 Inv-loop μ-loop
+slice-copy-out-add-finite-2 c = search needs
+
+add-finite-requires : tie.Need-add-finite-requires Inv-loop μ-loop
+add-finite-requires c κs =
+    let turn = c .before .before in
+    subst₂ Finite (sym (first-is (c .before))) (sym (second-is c)) (turn .before .before .pre .1 .1 (turn .before .loop .k) (turn .loop-test .taken))
+
+add-t17 : tie.Need-add-t17 Inv-loop μ-loop
+add-t17 c = search needs
+
+mul-t18 : tie.Need-mul-t18 Inv-loop μ-loop
+mul-t18 c = search needs
+
+slice-set-from-w : tie.Need-slice-set-from-w Inv-loop μ-loop
+slice-set-from-w c = search needs
+
+add-k : tie.Need-add-k Inv-loop μ-loop
+add-k c = search needs
+
+loop-less : tie.Need-loop-less Inv-loop μ-loop
+loop-less c = search needs
+
+loop-again : tie.Need-loop-again Inv-loop μ-loop
+loop-again c =
+    let at-loop = c .before .before .before .before in
+    let a = at-loop .before .args in (
+      omega arith,
+      store-more (pos 0) (a .w .now) (at-loop .loop .w) (a .d) (at-loop .loop .k) _ _ (at-loop .loop .inv .1)
+          (back (c .add-finite .ok) ∙ c .add-finite .ensures ∙ ap₂ addWord (first-is (c .before .before)) (second-is (c .before))),
+      simp length-set (at-loop .loop .inv .2),
+    )
+
+same-length : tie.Need-same-length Inv-loop μ-loop
+same-length c = c .before .loop .inv .2
+
+returns : tie.Need-returns Inv-loop μ-loop
+returns c =
+    let at-loop = c .before in
+    let a = at-loop .before .args in
+    at-loop .loop .inv .1 ∙ ap (λ (n : ℕ). write (a .w .now) (a .d) n (plusAt (a .w .now) (a .a) (a .b))) (le-antisymm (at-loop .loop .inv .0) (c .loop-test .left))
+
+pub plus-at-spec : {M : Type 1} → statement M
+plus-at-spec =
+    tie.close
+    (tie.spec
+    Inv-loop
+    μ-loop
+    loop-holds
+    add-add-finite
+    mul-add-finite
+    slice-copy-out-add-finite
+    add-add-finite-2
+    mul-add-finite-2
+    slice-copy-out-add-finite-2
+    add-finite-requires
+    add-t17
+    mul-t18
+    slice-set-from-w
+    add-k
+    loop-less
+    loop-again
+    same-length
+    returns)
