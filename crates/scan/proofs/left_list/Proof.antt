@@ -1,4 +1,4 @@
--- `scan::left_list` meets its contract: the list is stored by `words::box_plus`, or nothing is. Assumes nothing.
+-- `scan::left_list` meets its contract: the list is stored by `halves::box_plus`, or nothing is. Assumes nothing.
 use mathlib.Core.Path.{sym, ap, _∙_}
 use mathlib.Core.Logic.{inr}
 use mathlib.Core.Bool.{Bool, cond}

@@ -1,4 +1,4 @@
--- `scan::right_list` meets its contract: the list is stored by `words::plus_box`, or by `words::plus_at` where the box is with certain, or nothing is.
+-- `scan::right_list` meets its contract: the list is stored by `halves::plus_box`, or by `halves::plus_at` where the box is with certain, or nothing is.
 -- Assumes nothing.
 use mathlib.Core.Path.{_≡_, sym, ap, _∙_, subst}
 use mathlib.Core.Logic.{inr}

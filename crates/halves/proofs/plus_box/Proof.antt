@@ -1,11 +1,11 @@
--- `words::plus_box` meets its contract: the boxes are stored, and then the part from c on is added to them. Assumes nothing.
-use Rattle.words.proofs.Steps.{plus-box-law, front-own, front-other}
+-- `halves::plus_box` meets its contract: the boxes are stored, and then the part from c on is added to them. Assumes nothing.
+use Rattle.halves.proofs.Steps.{plus-box-law, front-own, front-other}
 use mathlib.Core.Path.{sym, subst₂}
 use Rattle.words.specs.Words.{Finite}
 use native.Mathlib.Omega.{arith}
 use borrow.Author.Needs.{needs}
-use Rattle.words.proofs.plus_box.Statement.{statement}
-use Rattle.words.proofs.plus_box.Tie as tie
+use Rattle.halves.proofs.plus_box.Statement.{statement}
+use Rattle.halves.proofs.plus_box.Tie as tie
 
 box-at-requires : tie.Need-box-at-requires
 box-at-requires c κs = search needs

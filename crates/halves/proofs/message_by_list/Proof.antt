@@ -1,25 +1,27 @@
--- `words::node_message` meets its contract. The loop's invariant: the first k words of both halves are stored, and nothing else is. Assumes nothing.
+-- `halves::message_by_list` meets its contract. The loop's invariant is that of `node_message`; the box of the second half is what the list has
+-- beyond what was added to it. Assumes nothing.
 use mathlib.Core.Path.{_≡_, refl, sym, ap₂, _∙_, subst, subst₂}
-use lib.IntN.{pos}
+use lib.IntN.{ℤ, pos, _-ℤ_}
 use Prim.Native.Nat.{ℕ, _+_, _-_, _≤_}
 use native.Mathlib.Omega.{arith}
 use native.Mathlib.Nat.{le-antisymm}
 use lib.ListN.{length, length-set}
 use mir.Val.{toZ, ofZ}
 use mir.Syntax.{w32}
-use Rattle.words.specs.Words.{word, write, Word, Added, boxWord, addWord}
+use Rattle.words.specs.Words.{word, write, Word, Added, boxWord, addWord, plusBox}
 use Rattle.words.proofs.Signed.{back}
+use Rattle.words.proofs.Laws.{add-less}
 use Rattle.words.proofs.Store.{store-both}
-use Rattle.words.proofs.Steps.{Halves, Sources, sources}
+use Rattle.halves.proofs.Steps.{Halves, Sources, sources}
 use borrow.Author.Needs.{needs}
-use Rattle.words.proofs.node_message.Statement.{statement}
-use Rattle.words.proofs.node_message.Tie as tie
+use Rattle.halves.proofs.message_by_list.Statement.{statement}
+use Rattle.halves.proofs.message_by_list.Tie as tie
 
 abbrev Inv-loop : tie.InvT-loop
-Inv-loop w₀ m x l h y r g k₀ w k = (k ≤ h) × Halves w₀ m x l h k w × (length w ≡ length w₀)
+Inv-loop w₀ m x l c h y r g k₀ w k = (k ≤ h) × Halves w₀ m x l h k w × (length w ≡ length w₀)
 
 abbrev μ-loop : tie.MeasureT-loop
-μ-loop w₀ m x l h y r g k₀ w k = h - k
+μ-loop w₀ m x l c h y r g k₀ w k = h - k
 
 -- ---- what a turn reads and finds, by the words at entry
 from : (c : tie.In-loop Inv-loop μ-loop) → let a = c .before .before .args in Sources (a .w .now) (c .before .loop .w) (a .x) (a .l) (a .h) (c .before .loop .k)
@@ -29,13 +31,15 @@ from c =
     let a = start .args in
     sources (a .w .now) (at-loop .loop .w) (a .m) (a .x) (a .l) (a .h) (at-loop .loop .k) (start .pre .0 .0) (start .pre .0 .1) (at-loop .loop .inv .1) (c .loop-test .taken)
 
-first-is : (c : tie.After-first Inv-loop μ-loop) → let at-loop = c .before .before in let a = at-loop .before .args in
-    toZ w32 (ofZ w32 (word (at-loop .loop .w) (a .x + at-loop .loop .k))) ≡ word (a .w .now) (a .x + at-loop .loop .k)
-first-is c = back (c .first .given) ∙ from (c .before) .list _ (omega arith)
+list-is : (c : tie.After-list Inv-loop μ-loop) → let at-loop = c .before .before in let a = at-loop .before .args in
+    toZ w32 (ofZ w32 (word (at-loop .loop .w) (a .c + at-loop .loop .k))) ≡ plusBox (a .w .now) (a .x) (a .l) (a .x + a .h) (at-loop .loop .k)
+list-is c =
+    let start = c .before .before .before in
+    back (c .list .given) ∙ from (c .before) .list _ (omega (arith, start .pre .0)) ∙ start .pre .1 .1 .1 _ (c .before .loop-test .taken)
 
-second-is : (c : tie.After-second Inv-loop μ-loop) → let at-loop = c .before .before .before in let a = at-loop .before .args in
+high-is : (c : tie.After-high Inv-loop μ-loop) → let at-loop = c .before .before .before in let a = at-loop .before .args in
     toZ w32 (ofZ w32 (word (at-loop .loop .w) (a .x + a .h + at-loop .loop .k))) ≡ word (a .w .now) (a .x + a .h + at-loop .loop .k)
-second-is c = back (c .second .given) ∙ from (c .before .before) .list _ (omega arith)
+high-is c = back (c .high .given) ∙ from (c .before .before) .list _ (omega arith)
 
 left-is : (c : tie.After-left Inv-loop μ-loop) → let at-loop = c .before .before .before .before in let a = at-loop .before .args in
     toZ w32 (ofZ w32 (word (at-loop .loop .w) (a .l + at-loop .loop .k))) ≡ word (a .w .now) (a .l + at-loop .loop .k)
@@ -47,13 +51,14 @@ right-is c = back (c .right .given) ∙ from (c .before .before .before .before)
 
 sum-is : (c : tie.After-add-words Inv-loop μ-loop) → let at-loop = c .before .before .before .before .before .before in let a = at-loop .before .args in
     toZ w32 (ofZ w32 (c .add-words .result)) ≡ addWord (word (a .w .now) (a .x + a .h + at-loop .loop .k)) (word (a .w .now) (a .l + a .h + at-loop .loop .k))
-sum-is c = back (c .add-words .ok) ∙ c .add-words .ensures ∙ ap₂ addWord (second-is (c .before .before .before)) (right-is (c .before))
+sum-is c = back (c .add-words .ok) ∙ c .add-words .ensures ∙ ap₂ addWord (high-is (c .before .before .before)) (right-is (c .before))
 
-box-is : (c : tie.After-box-words2 Inv-loop μ-loop) → let at-loop = c .before .before .before .before .before .before .before .before in let a = at-loop .before .args in
-    toZ w32 (ofZ w32 (c .box-words2 .result)) ≡ boxWord (word (a .w .now) (a .x + at-loop .loop .k)) (word (a .w .now) (a .l + at-loop .loop .k))
+box-is : (c : tie.After-high Inv-loop μ-loop) → let at-loop = c .before .before .before in let a = at-loop .before .args in
+    toZ w32 (ofZ w32 (word (at-loop .loop .w) (a .c + at-loop .loop .k))) -ℤ toZ w32 (ofZ w32 (word (at-loop .loop .w) (a .x + a .h + at-loop .loop .k)))
+    ≡ boxWord (word (a .w .now) (a .x + at-loop .loop .k)) (word (a .w .now) (a .l + at-loop .loop .k))
 box-is c =
-    back (c .box-words2 .ok) ∙ c .box-words2 .ensures
-    ∙ ap₂ boxWord (first-is (c .before .before .before .before .before .before)) (left-is (c .before .before .before .before))
+    let fin = c .before .before .before .before .pre .1 .1 .0 _ (c .before .before .loop-test .taken) in
+    ap₂ (λ (p q : ℤ). p -ℤ q) (list-is (c .before)) (high-is c) ∙ add-less _ _ (fin .0) (fin .1)
 
 add-y : tie.Need-add-y Inv-loop μ-loop
 add-y c = search needs
@@ -67,23 +72,23 @@ add-g c = search needs
 loop-holds : tie.Need-loop-holds Inv-loop μ-loop
 loop-holds c = (omega arith, unfold write in refl, refl)
 
-add-first : tie.Need-add-first Inv-loop μ-loop
-add-first c = search needs
+add-list : tie.Need-add-list Inv-loop μ-loop
+add-list c = search needs
 
-mul-first : tie.Need-mul-first Inv-loop μ-loop
-mul-first c = search needs
+mul-list : tie.Need-mul-list Inv-loop μ-loop
+mul-list c = search needs
 
-slice-copy-out-first : tie.Need-slice-copy-out-first Inv-loop μ-loop
-slice-copy-out-first c = search needs
+slice-copy-out-list : tie.Need-slice-copy-out-list Inv-loop μ-loop
+slice-copy-out-list c = search needs
 
-add-second : tie.Need-add-second Inv-loop μ-loop
-add-second c = search needs
+add-high : tie.Need-add-high Inv-loop μ-loop
+add-high c = search needs
 
-mul-second : tie.Need-mul-second Inv-loop μ-loop
-mul-second c = search needs
+mul-high : tie.Need-mul-high Inv-loop μ-loop
+mul-high c = search needs
 
-slice-copy-out-second : tie.Need-slice-copy-out-second Inv-loop μ-loop
-slice-copy-out-second c = search needs
+slice-copy-out-high : tie.Need-slice-copy-out-high Inv-loop μ-loop
+slice-copy-out-high c = search needs
 
 add-left : tie.Need-add-left Inv-loop μ-loop
 add-left c = search needs
@@ -107,7 +112,7 @@ add-words-requires : tie.Need-add-words-requires Inv-loop μ-loop
 add-words-requires c κs =
     let turn = c .before .before .before .before in
     let start = turn .before .before in
-    subst₂ Added (sym (second-is (c .before .before))) (sym (right-is c)) (start .pre .1 .2 (turn .before .loop .k) (turn .loop-test .taken))
+    subst₂ Added (sym (high-is (c .before .before))) (sym (right-is c)) (start .pre .1 .0 .1 (turn .before .loop .k) (turn .loop-test .taken))
 
 box-words-requires : tie.Need-box-words-requires Inv-loop μ-loop
 box-words-requires c κs =
@@ -115,7 +120,7 @@ box-words-requires c κs =
     let start = turn .before .before in
     let k = turn .before .loop .k in
     let lt = turn .loop-test .taken in
-    (subst Word (sym (left-is (c .before .before))) (start .pre .1 .1 k lt), subst Word (sym (sum-is c)) (start .pre .1 .2 k lt .1))
+    (subst Word (sym (left-is (c .before .before))) (start .pre .1 .0 .0 k lt), subst Word (sym (sum-is c)) (start .pre .1 .0 .1 k lt .1))
 
 add-w : tie.Need-add-w Inv-loop μ-loop
 add-w c = search needs
@@ -126,25 +131,27 @@ mul-w c = search needs
 slice-set-from-w : tie.Need-slice-set-from-w Inv-loop μ-loop
 slice-set-from-w c = search needs
 
-box-words-requires-2 : tie.Need-box-words-requires-2 Inv-loop μ-loop
-box-words-requires-2 c κs =
+sub-words-requires : tie.Need-sub-words-requires Inv-loop μ-loop
+sub-words-requires c κs =
     let turn = c .before .before .before .before .before .before in
-    let start = turn .before .before in
-    let k = turn .before .loop .k in
-    let lt = turn .loop-test .taken in
-    (subst Word (sym (first-is (c .before .before .before .before .before))) (start .pre .1 .0 k lt), subst Word (sym (left-is (c .before .before .before))) (start .pre .1 .1 k lt))
+    let fin = turn .before .before .pre .1 .1 .0 _ (turn .loop-test .taken) in
+    subst Word (sym (box-is (c .before .before .before .before))) (omega (arith, fin .0))
+
+boxed-is : (c : tie.After-sub-words Inv-loop μ-loop) → let at-loop = c .before .before .before .before .before .before .before .before in let a = at-loop .before .args in
+    toZ w32 (ofZ w32 (c .sub-words .result)) ≡ boxWord (word (a .w .now) (a .x + at-loop .loop .k)) (word (a .w .now) (a .l + at-loop .loop .k))
+boxed-is c = back (c .sub-words .ok) ∙ c .sub-words .ensures ∙ box-is (c .before .before .before .before .before)
 
 add-words-requires-2 : tie.Need-add-words-requires-2 Inv-loop μ-loop
 add-words-requires-2 c κs =
     let turn = c .before .before .before .before .before .before .before in
     let start = turn .before .before in
-    subst₂ Added (sym (box-is c)) (sym (right-is (c .before .before .before))) (start .pre .1 .3 (turn .before .loop .k) (turn .loop-test .taken))
+    subst₂ Added (sym (boxed-is c)) (sym (right-is (c .before .before .before))) (start .pre .1 .0 .2 (turn .before .loop .k) (turn .loop-test .taken))
 
-add-t16 : tie.Need-add-t16 Inv-loop μ-loop
-add-t16 c = search needs
+add-t17 : tie.Need-add-t17 Inv-loop μ-loop
+add-t17 c = search needs
 
-mul-t15 : tie.Need-mul-t15 Inv-loop μ-loop
-mul-t15 c = search needs
+mul-t16 : tie.Need-mul-t16 Inv-loop μ-loop
+mul-t16 c = search needs
 
 slice-set-from-w-2 : tie.Need-slice-set-from-w-2 Inv-loop μ-loop
 slice-set-from-w-2 c =
@@ -169,7 +176,7 @@ loop-again c =
       omega arith,
       store-both (pos 0) (a .w .now) (at-loop .loop .w) (a .m) (a .h) (at-loop .loop .k) _ _ _ _ lt (at-loop .loop .inv .1)
           (back (c .before .before .box-words .ok) ∙ c .before .before .box-words .ensures ∙ ap₂ boxWord (left-is (sum .before .before)) (sum-is sum))
-          (back (c .add-words2 .ok) ∙ c .add-words2 .ensures ∙ ap₂ addWord (box-is (c .before)) (right-is (sum .before))),
+          (back (c .add-words2 .ok) ∙ c .add-words2 .ensures ∙ ap₂ addWord (boxed-is (c .before)) (right-is (sum .before))),
       simp length-set (at-loop .loop .inv .2),
     )
 
@@ -182,8 +189,8 @@ returns c =
     let a = at-loop .before .args in
     subst (λ (n : ℕ). Halves (a .w .now) (a .m) (a .x) (a .l) (a .h) n (at-loop .loop .w)) (le-antisymm (at-loop .loop .inv .0) (c .loop-test .left)) (at-loop .loop .inv .1)
 
-pub node-message-spec : {M : Type 1} → statement M
-node-message-spec =
+pub message-by-list-spec : {M : Type 1} → statement M
+message-by-list-spec =
     tie.close
     (tie.spec
     Inv-loop
@@ -192,12 +199,12 @@ node-message-spec =
     add-r
     add-g
     loop-holds
-    add-first
-    mul-first
-    slice-copy-out-first
-    add-second
-    mul-second
-    slice-copy-out-second
+    add-list
+    mul-list
+    slice-copy-out-list
+    add-high
+    mul-high
+    slice-copy-out-high
     add-left
     mul-left
     slice-copy-out-left
@@ -209,10 +216,10 @@ node-message-spec =
     add-w
     mul-w
     slice-set-from-w
-    box-words-requires-2
+    sub-words-requires
     add-words-requires-2
-    add-t16
-    mul-t15
+    add-t17
+    mul-t16
     slice-set-from-w-2
     add-k
     loop-less

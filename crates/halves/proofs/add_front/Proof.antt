@@ -1,5 +1,5 @@
--- `words::add_front` meets its contract. The loop's invariant: the first k sums are stored. Assumes nothing.
+-- `halves::add_front` meets its contract. The loop's invariant: the first k sums are stored. Assumes nothing.
 use Rattle.words.proofs.Signed.{back}
 use mathlib.Core.Path.{_≡_, refl, ap, ap₂, _∙_}
 use lib.IntN.{pos}
 use Prim.Native.Nat.{ℕ, _+_, _-_, _≤_}
@@ -7,10 +7,10 @@ use native.Mathlib.Omega.{arith}
 use native.Mathlib.Nat.{le-antisymm}
 use borrow.Author.Needs.{needs}
 use lib.ListN.{length, length-set}
 use Rattle.words.specs.Words.{write, addWord, plusFront}
 use Rattle.words.proofs.Store.{store-none, store-more, source-above, source-below}
-use Rattle.words.proofs.add_front.Statement.{statement}
-use Rattle.words.proofs.add_front.Tie as tie
+use Rattle.halves.proofs.add_front.Statement.{statement}
+use Rattle.halves.proofs.add_front.Tie as tie
 
 abbrev Inv-loop : tie.InvT-loop
 Inv-loop part₀ d h k₀ part k = (k ≤ h) × (part ≡ write part₀ d k (plusFront part₀ d)) × (length part ≡ length part₀)

@@ -1,4 +1,4 @@
--- `words::plus_at` meets its contract. The loop's invariant: the first k sums are stored. Assumes nothing.
+-- `halves::plus_at` meets its contract. The loop's invariant: the first k sums are stored. Assumes nothing.
 use mathlib.Core.Path.{_≡_, refl, sym, ap, ap₂, _∙_, subst₂}
 use lib.IntN.{pos}
 use Prim.Native.Nat.{ℕ, _+_, _-_, _≤_}
@@ -7,12 +7,12 @@ use native.Mathlib.Nat.{le-antisymm}
 use lib.ListN.{length, length-set}
 use mir.Val.{toZ, ofZ}
 use mir.Syntax.{w32}
 use Rattle.words.specs.Words.{word, write, Finite, addWord, plusAt}
 use Rattle.words.proofs.Signed.{back}
 use Rattle.words.proofs.Store.{store-none, store-more, source}
 use borrow.Author.Needs.{needs}
-use Rattle.words.proofs.plus_at.Statement.{statement}
-use Rattle.words.proofs.plus_at.Tie as tie
+use Rattle.halves.proofs.plus_at.Statement.{statement}
+use Rattle.halves.proofs.plus_at.Tie as tie
 
 abbrev Inv-loop : tie.InvT-loop
 Inv-loop w₀ d a b h k₀ w k = (k ≤ h) × (w ≡ write w₀ d k (plusAt w₀ a b)) × (length w ≡ length w₀)

@@ -1,4 +1,4 @@
--- `words::message_right_zero` meets its contract. The loop's invariant is that of `node_message`; a sum with 0 is the other word. Assumes nothing.
+-- `halves::message_right_zero` meets its contract. The loop's invariant is that of `node_message`; a sum with 0 is the other word. Assumes nothing.
 use mathlib.Core.Path.{_≡_, refl, sym, ap₂, _∙_, subst}
 use lib.IntN.{pos}
 use Prim.Native.Nat.{ℕ, _+_, _-_, _≤_}
@@ -7,14 +7,14 @@ use native.Mathlib.Nat.{le-antisymm}
 use lib.ListN.{length, length-set}
 use mir.Val.{toZ, ofZ}
 use mir.Syntax.{w32}
 use Rattle.words.specs.Words.{word, write, Word, boxWord}
 use Rattle.words.proofs.Signed.{back}
 use Rattle.words.proofs.Laws.{box-plus-zero, plus-box-zero}
 use Rattle.words.proofs.Store.{store-both}
-use Rattle.words.proofs.Steps.{Halves, Sources, sources}
+use Rattle.halves.proofs.Steps.{Halves, Sources, sources}
 use borrow.Author.Needs.{needs}
-use Rattle.words.proofs.message_right_zero.Statement.{statement}
-use Rattle.words.proofs.message_right_zero.Tie as tie
+use Rattle.halves.proofs.message_right_zero.Statement.{statement}
+use Rattle.halves.proofs.message_right_zero.Tie as tie
 
 abbrev Inv-loop : tie.InvT-loop
 Inv-loop w₀ m x l h y g k₀ w k = (k ≤ h) × Halves w₀ m x l h k w × (length w ≡ length w₀)
