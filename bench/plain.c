@@ -1,13 +1,11 @@
 // Encoder, planner, front end and decoder in plain C, as one would write them without intrinsics.
 #include "baseline.h"
+#include "kinds.h"
 
 #include <math.h>
 #include <string.h>
 
 #define CERTAIN INT32_MAX
-
-enum { RATE_0, RATE_1, REP, SPC, TYPE_I, TYPE_III, KINDS };
-enum { NO_KIND = -1, UNCUT = KINDS };
 
 // The exponent of an allowed length, else 0.
 static int exponent_of(size_t n) {
@@ -34,17 +32,7 @@ static void transform(uint8_t *bits, size_t n) {
             for (size_t j = i; j < i + h; j++) bits[j] ^= bits[j + h];
 }
 
-static int kind_of(const uint8_t *mask, size_t size) {
-    size_t frozen = count_ones(mask, size);
-    if (frozen == size) return RATE_0;
-    if (frozen == 0) return RATE_1;
-    if (frozen == size - 1 && !mask[size - 1]) return REP;
-    if (frozen == 1 && mask[0]) return SPC;
-    if (size < 4) return NO_KIND;
-    if (frozen == size - 2 && !mask[size - 1] && !mask[size - 2]) return TYPE_I;
-    if (frozen == 2 && mask[0] && mask[1]) return TYPE_III;
-    return NO_KIND;
-}
+static int kind_of(const uint8_t *mask, size_t size) { return kind_of_part(mask, size, count_ones(mask, size)); }
 
 // The kind of a pattern that is of some kind.
 static int known_kind(const uint8_t *mask, size_t size) {

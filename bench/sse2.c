@@ -1,5 +1,6 @@
 // The decoder with SSE2 intrinsics. The plan is turned once into a list of steps, which each sweep goes through.
 #include "baseline.h"
+#include "kinds.h"
 
 #include <emmintrin.h>
 #include <string.h>
@@ -8,8 +9,6 @@
 #define INLINE static inline __attribute__((always_inline))
 
 typedef __m128i vector;
-
-enum { RATE_0, RATE_1, REP, SPC, TYPE_I, TYPE_III, UNCUT, NO_KIND };
 
 INLINE vector load(const int32_t *p) { return _mm_loadu_si128((const vector *)p); }
 INLINE void store(int32_t *p, vector v) { _mm_storeu_si128((vector *)p, v); }
@@ -172,15 +171,7 @@ typedef struct {
 static int kind_of(const builder *b, size_t node, size_t start, size_t size) {
     if (!b->plan[node]) return UNCUT;
     size_t frozen = b->frozen[start + size] - b->frozen[start];
-    const uint8_t *mask = b->mask + start;
-    if (frozen == size) return RATE_0;
-    if (frozen == 0) return RATE_1;
-    if (frozen == size - 1 && !mask[size - 1]) return REP;
-    if (frozen == 1 && mask[0]) return SPC;
-    if (size < 4) return NO_KIND;
-    if (frozen == size - 2 && !mask[size - 1] && !mask[size - 2]) return TYPE_I;
-    if (frozen == 2 && mask[0] && mask[1]) return TYPE_III;
-    return NO_KIND;
+    return kind_of_part(b->mask + start, size, frozen);
 }
 
 static void add_step(builder *b, int what, size_t size, size_t list, size_t message) {

@@ -1,0 +1,23 @@
+// The kinds of nodes, which both C decoders read off the mask.
+#ifndef KINDS_H
+#define KINDS_H
+
+#include <stddef.h>
+#include <stdint.h>
+
+enum { RATE_0, RATE_1, REP, SPC, TYPE_I, TYPE_III, KINDS };
+enum { UNCUT = KINDS, NO_KIND };
+
+// The kind of a node of some positions, of which `frozen` are frozen.
+static inline int kind_of_part(const uint8_t *mask, size_t size, size_t frozen) {
+    if (frozen == size) return RATE_0;
+    if (frozen == 0) return RATE_1;
+    if (frozen == size - 1 && !mask[size - 1]) return REP;
+    if (frozen == 1 && mask[0]) return SPC;
+    if (size < 4) return NO_KIND;
+    if (frozen == size - 2 && !mask[size - 1] && !mask[size - 2]) return TYPE_I;
+    if (frozen == 2 && mask[0] && mask[1]) return TYPE_III;
+    return NO_KIND;
+}
+
+#endif
