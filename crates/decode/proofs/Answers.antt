@@ -18,7 +18,7 @@ use Rattle.model.specs.Bounds.{Small, Under, limit}
 use Rattle.model.specs.Refusals.{Test, test, refusal, row-1, row-2, row-3, row-4, row-5, row-6, row-7, row-11, row-12, exponent, DecodeCall, decodeNumber, decodeAnswer, decodeCycles, decodeCheck, decodeSoft, decodeHard, decodePayload, decodeWork}
 use Rattle.model.proofs.Lists.{length-tabulate, tabulate-ext, double}
 use Rattle.model.proofs.Bounds.{soft-under, cap-limit, under-mono}
-use Rattle.model.proofs.Refusals.{llrs-small}
+use Rattle.model.proofs.Refusals.{passes, llrs-small}
 use Rattle.model.proofs.Theorems.{decision-bound, cycles-most}
 use Rattle.words.specs.Words.{word, softOf, write, stored, addWord, Added}
 use Rattle.words.proofs.Laws.{soft-fin, soft-word, word-in}
@@ -134,28 +134,23 @@ module _ (mask plan : List ℕ) (k : ℕ) (llrs soft : List ℤ) (hard payload :
 
   -- ---- an accepted call
   module _ (z : 0 ≡ roomNumber) where
-    passes : (number : ℕ) (b : Bool) (ts : List Test) → refusal (test (suc number) b ∷ ts) ≡ 0 → (b ≡ true) × (refusal ts ≡ 0)
-    unfolding refusal
-    passes number true ts e = (refl, e)
-    passes number false ts e = let q : ⊥ = omega arith in absurd q
-
     pub soft-room : N ≤ length soft
-    soft-room = leb-true N (length soft) (passes 10 (leb N (length soft)) _ (sym z) .0)
+    soft-room = leb-true N (length soft) (passes 11 (leb N (length soft)) _ (λ q. omega arith) (sym z) .0)
 
     after-soft : refusal (row-11 N (length hard) ∷ row-11 (unfrozen mask) (length payload) ∷ row-12 (N * (n + 3)) (length work) ∷ []) ≡ 0
-    after-soft = passes 10 (leb N (length soft)) _ (sym z) .1
+    after-soft = passes 11 (leb N (length soft)) _ (λ q. omega arith) (sym z) .1
 
     pub hard-room : N ≤ length hard
-    hard-room = leb-true N (length hard) (passes 10 (leb N (length hard)) _ after-soft .0)
+    hard-room = leb-true N (length hard) (passes 11 (leb N (length hard)) _ (λ q. omega arith) after-soft .0)
 
     after-hard : refusal (row-11 (unfrozen mask) (length payload) ∷ row-12 (N * (n + 3)) (length work) ∷ []) ≡ 0
-    after-hard = passes 10 (leb N (length hard)) _ after-soft .1
+    after-hard = passes 11 (leb N (length hard)) _ (λ q. omega arith) after-soft .1
 
     pub payload-room : unfrozen mask ≤ length payload
-    payload-room = leb-true (unfrozen mask) (length payload) (passes 10 (leb (unfrozen mask) (length payload)) _ after-hard .0)
+    payload-room = leb-true (unfrozen mask) (length payload) (passes 11 (leb (unfrozen mask) (length payload)) _ (λ q. omega arith) after-hard .0)
 
     pub work-room : N * (n + 3) ≤ length work
-    work-room = leb-true (N * (n + 3)) (length work) (passes 11 (leb (N * (n + 3)) (length work)) _ (passes 10 (leb (unfrozen mask) (length payload)) _ after-hard .1) .0)
+    work-room = leb-true (N * (n + 3)) (length work) (passes 12 (leb (N * (n + 3)) (length work)) _ (λ q. omega arith) (passes 11 (leb (unfrozen mask) (length payload)) _ (λ q. omega arith) after-hard .1) .0)
 
     module _ {cycles t : ℕ} (p : Passed mask plan k llrs cycles t) where
       abbrev L : List Soft

@@ -1,6 +1,6 @@
 -- Buffers whose front is overwritten, and one more element of a list. Assumes nothing.
 use mathlib.Core.Path.{_≡_, refl, sym, _∙_, ap}
-use mathlib.Core.Bool.{Bool, true, false, _&&_}
+use mathlib.Core.Bool.{Bool, _&&_}
 use mathlib.Core.List.{List, [], _∷_, _++_, append-assoc}
 use Prim.Native.Nat.{ℕ, suc, _+_, _<_, _≤_}
 use native.Mathlib.Numerals.{add-one}
@@ -11,6 +11,7 @@ use lib.ListN.{length, getD, set, take, drop, length-append, length-drop}
 use lib.Seq.{drop-cons, drop-length, take-suc, length-take-le, set-at}
 use Rattle.model.specs.Lists.{over}
 use Rattle.model.specs.Refusals.{llrsInRange}
+use Rattle.model.proofs.Lists.{and-assoc, and-true}
 
 -- one element more in front
 pub over-more : {A : Type 0} (new old : List A) (i : ℕ) (v d : A) → length new ≡ i → i < length old → set (over new old) i v ≡ over (new ++ (v ∷ [])) old
@@ -40,11 +41,7 @@ over-take {A} from old i d h lt =
 pub range-more : (good : Bool) (llrs : List ℤ) (i : ℕ) → i < length llrs
     → (good && llrsInRange (drop i llrs)) ≡ ((good && leb (natAbs (getD llrs i (pos 0))) 32767) && llrsInRange (drop (i + 1) llrs))
 unfolding llrsInRange
-range-more good llrs i h = rw (add-one, drop-cons llrs i (pos 0)) (and-assoc good (leb (natAbs (getD llrs i (pos 0))) 32767) (llrsInRange (drop (suc i) llrs)))
-  where
-    and-assoc : (a b c : Bool) → (a && (b && c)) ≡ ((a && b) && c)
-    and-assoc true b c = refl
-    and-assoc false b c = refl
+range-more good llrs i h = rw (add-one, drop-cons llrs i (pos 0)) (sym (and-assoc good (leb (natAbs (getD llrs i (pos 0))) 32767) (llrsInRange (drop (suc i) llrs))))
 
 pub range-end : (good : Bool) (llrs : List ℤ) (i : ℕ) → length llrs ≤ i → i ≤ length llrs → (good && llrsInRange (drop i llrs)) ≡ good
 unfolding llrsInRange
@@ -52,7 +49,3 @@ range-end good llrs i l m = ap (λ (z : List ℤ). good && llrsInRange z) (ap (�
   where
     same : length llrs ≤ i → i ≤ length llrs → i ≡ length llrs
     same l m = omega arith
-
-    and-true : (b : Bool) → (b && true) ≡ b
-    and-true true = refl
-    and-true false = refl

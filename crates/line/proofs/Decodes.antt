@@ -16,10 +16,10 @@ use Rattle.model.specs.Encoding.{unfrozen, transform, payloadOf}
 use Rattle.model.specs.Scan.{scan, hardWord, decided, Decoded, decodeScan}
 use Rattle.model.specs.Bounds.{Under, limit}
 use Rattle.model.specs.Plans.{Allowed, isPlan, oneCut, cutsOfKinds, cycles}
-use Rattle.model.specs.Refusals.{Test, test, refusal, exponent, planNumber, DecodeCall, decodeNumber, decodeAnswer, decodeCycles, decodeCheck, decodeSoft, decodeHard, decodePayload}
+use Rattle.model.specs.Refusals.{exponent, planNumber, DecodeCall, decodeNumber, decodeAnswer, decodeCycles, decodeCheck, decodeSoft, decodeHard, decodePayload}
 use Rattle.model.proofs.Lists.{T-true, true-T, length-tabulate}
 use Rattle.model.proofs.Bounds.{soft-under, cap-limit, under-mono}
-use Rattle.model.proofs.Refusals.{exponent-power, llrs-small}
+use Rattle.model.proofs.Refusals.{pass, none-left, exponent-power, llrs-small}
 use Rattle.words.specs.Words.{softOf}
 use Rattle.decode.specs.Calls.{callOf, Answered, Written}
 use Rattle.decode.proofs.Answers.{scan-length}
@@ -28,7 +28,7 @@ use Rattle.printer.specs.Text.{okText, decoded}
 use Rattle.printer.specs.Put.{Printed}
 use Rattle.printer.proofs.Whole.{softs-back}
 use Rattle.line.specs.Program.{decodeText, maxText}
-use Rattle.line.proofs.Payloads.{length-payload, unfrozen-most}
+use Rattle.model.proofs.Payload.{length-payload, unfrozen-most}
 
 -- the same text, with more room
 pub reprinted : {t t′ o o₁ : List ℕ} {j most most′ : ℕ} → t ≡ t′ → most ≤ most′ → Printed t most o o₁ j → Printed t′ most′ o o₁ j
@@ -46,15 +46,6 @@ room-enough n k soft hard payload a b e =
     let h : length (take n hard) ≤ 1024 = omega (arith, length-take n hard) in
     let p : length (take k payload) ≤ 1024 = omega (arith, length-take k payload) in
     omega arith
-
--- a test that is passed leaves the number to the others
-pass : (number : ℕ) (p : Bool) (ts : List Test) → p ≡ true → refusal ts ≡ 0 → refusal (test number p ∷ ts) ≡ 0
-unfolding refusal
-pass number p ts e h = rw e h
-
-none : refusal [] ≡ 0
-unfolding refusal
-none = refl
 
 both-true : {a b : Bool} → a ≡ true → b ≡ true → (a && b) ≡ true
 both-true e f = rw (e, f)
@@ -76,7 +67,7 @@ plan-accepted {mask} f room e =
     let few : length mask ≤ 1024 = f .small in
     pass 1 _ _ (rw (ne-eqb (exponent (length mask)) 0 (f .allowed)))
     (pass 2 _ _ (f .bits)
-    (pass 11 _ _ (le-leb (2 * length mask) room (omega arith)) none))
+    (pass 11 _ _ (le-leb (2 * length mask) room (omega arith)) none-left))
 
 module _ (mask plan : List ℕ) (k : ℕ) (llrs : List ℤ) (f : Fit mask k llrs) (A : Allowed (exponent (length mask)) plan mask) where
   abbrev N : ℕ
@@ -110,7 +101,7 @@ module _ (mask plan : List ℕ) (k : ℕ) (llrs : List ℤ) (f : Fit mask k llrs
         (pass 11 _ _ (le-leb N (length hard) (omega arith))
         (pass 11 _ _ (le-leb (unfrozen mask) (length payload) (omega (arith, unfrozen-most mask)))
         (pass 12 _ _ (le-leb (N * (n + 3)) (length work) (omega (arith, work-room)))
-        none))))))))))
+        none-left))))))))))
 
     accept : eqb (decodeNumber call) 0 ≡ true
     accept = eq-eqb (decodeNumber call) 0 number-zero

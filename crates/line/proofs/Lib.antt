@@ -1,4 +1,3 @@
-pub mod Payloads
 pub mod Decodes
 pub mod Replies
 pub mod Examples

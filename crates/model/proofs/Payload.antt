@@ -8,7 +8,7 @@ use native.Mathlib.Omega.{arith}
 use lib.Dec.{T, eqb}
 use lib.ListN.{getD, drop, length}
 use Rattle.model.specs.Lists.{atMost, bit}
-use Rattle.model.specs.Encoding.{unfrozen, place, payloadOf, frozenZero}
+use Rattle.model.specs.Encoding.{isUnfrozen, unfrozen, place, payloadOf, frozenZero}
 use Rattle.model.proofs.Lists.{cond-both, at-most-at, at-most-drop}
 
 pub length-place : (mask bits : List ℕ) → length (place mask bits) ≡ length mask
@@ -16,6 +16,26 @@ unfolding place
 length-place [] bits = refl
 length-place (m ∷ mask) bits =
     cond-both (λ (u : List ℕ). length u ≡ suc (length mask)) (eqb m 0) (ap suc (length-place mask (drop 1 bits))) (ap suc (length-place mask bits))
+
+-- a payload has K bits, at most N
+pub length-payload : (mask u : List ℕ) → length (payloadOf mask u) ≡ unfrozen mask
+unfolding payloadOf unfrozen
+length-payload [] u = refl
+length-payload (m ∷ mask) u = go (isUnfrozen m) (length-payload mask (drop 1 u))
+  where
+    go : (b : Bool) → length (payloadOf mask (drop 1 u)) ≡ unfrozen mask
+        → length (cond b (getD u 0 0 ∷ payloadOf mask (drop 1 u)) (payloadOf mask (drop 1 u))) ≡ bit b + unfrozen mask
+    go true e = omega (arith, e)
+    go false e = omega (arith, e)
+
+pub unfrozen-most : (mask : List ℕ) → unfrozen mask ≤ length mask
+unfolding unfrozen
+unfrozen-most [] = omega arith
+unfrozen-most (m ∷ mask) = go (isUnfrozen m) (unfrozen-most mask)
+  where
+    go : (b : Bool) → unfrozen mask ≤ length mask → bit b + unfrozen mask ≤ suc (length mask)
+    go true h = omega arith
+    go false h = omega arith
 
 -- the payload back from where it was placed
 abbrev Back : List ℕ → Type 0

@@ -11,18 +11,12 @@ use lib.Seq.{take-at}
 use borrow.Author.Tests.{eq-eqb, eqb-true, leb-true}
 use Rattle.model.specs.Lists.{atMost, over}
 use Rattle.model.specs.Encoding.{maxMask}
-use Rattle.model.specs.Refusals.{Test, test, refusal, exponent, maxSweeps, llrsInRange}
-use Rattle.model.proofs.Refusals.{length-small}
+use Rattle.model.specs.Refusals.{exponent, maxSweeps, llrsInRange}
+use Rattle.model.proofs.Refusals.{passes, length-small}
 use Rattle.reader.specs.Grammar.{Reading, malformed, reading}
 use Rattle.reader.specs.Answers.{maskOf, llrsOf, count, sweepsOf, lineNumber, lineSize, lineSweeps, lineMask, lineLlrs}
 use Rattle.reader.specs.Steps.{Fit}
 use Rattle.reader.proofs.Fields.{and-both}
-
--- a test of a number that is not 0 passes where the number of all is 0
-passes : (number : ℕ) (p : Bool) (ts : List Test) → (number ≡ 0 → ⊥) → refusal (test number p ∷ ts) ≡ 0 → (p ≡ true) × (refusal ts ≡ 0)
-unfolding refusal
-passes number true ts h e = (refl, e)
-passes number false ts h e = absurd (h e)
 
 pub line-accepted : (line : Reading) → lineNumber line ≡ 0 → Fit (maskOf line) (sweepsOf line) (llrsOf line)
 unfolding lineNumber

@@ -4,7 +4,7 @@ use Prim.Native.Nat.{_≤_}
 use native.Mathlib.Omega.{arith}
 use lib.ListN.{length}
 use lib.Seq.{length-take-le}
-use Rattle.line.proofs.Payloads.{unfrozen-most}
+use Rattle.model.proofs.Payload.{unfrozen-most}
 use Rattle.line.proofs.Decodes.{reprinted, room-enough, text-is}
 use borrow.Author.Needs.{needs}
 use Rattle.line.proofs.answer_along.Statement.{statement}
