@@ -169,7 +169,7 @@ module _ (mask plan : List ℕ) (k : ℕ) (llrs soft : List ℤ) (hard payload :
           at-all j = llrs-small (suc j) llrs (p .range) j (pow-above j)
 
       -- what the soft values' run requires
-      pub decodable : Decodable plan mask llrs N t (length soft) (length work)
+      pub decodable : Decodable plan mask llrs k N t (length soft) (length work)
       decodable = record {
         size = p .sized;
         low = p .low;
@@ -177,6 +177,7 @@ module _ (mask plan : List ℕ) (k : ℕ) (llrs soft : List ℤ) (hard payload :
         values = p .values;
         small = λ j _. small j;
         allowed = p .allowed;
+        some-sweep = p .some-sweep;
         answer = soft-room;
         room = subst (λ (m : ℕ). N * (m + 3) ≤ length work) (sym (p .stage-is)) work-room;
       }

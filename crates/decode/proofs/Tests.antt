@@ -10,7 +10,7 @@ use lib.ListN.{length}
 use Rattle.model.specs.Lists.{atMost}
 use Rattle.model.specs.Encoding.{maxMask}
 use Rattle.model.specs.Refusals.{refusal, row-5, row-6, row-7, exponent, maxSweeps, llrsInRange}
-use Rattle.model.proofs.Lists.{T-true, true-T, and-r}
+use Rattle.model.proofs.Lists.{T-true, true-T, and-l, and-r}
 use Rattle.plans.specs.Faults.{faultNumber, faultCycles}
 use Rattle.plans.proofs.Faults.{staged, fault-allowed, fault-then}
 use Rattle.decode.specs.Steps.{inputNumber, InputTests}
@@ -82,6 +82,7 @@ module _ (mask plan : List ℕ) (sweeps : ℕ) (llrs : List ℤ) where
                       sized = s .0;
                       low = s .1;
                       values = three;
+                      some-sweep = leb-true 1 sweeps (T-true (leb 1 sweeps) (and-l (leb 1 sweeps) (leb sweeps maxSweeps) (true-T (leb 1 sweeps && leb sweeps maxSweeps) four)));
                       few = leb-true sweeps maxSweeps (T-true (leb sweeps maxSweeps) (and-r (leb 1 sweeps) (leb sweeps maxSweeps) (true-T (leb 1 sweeps && leb sweeps maxSweeps) four)));
                       allowed = rw e (fault-allowed (exponent (length mask)) mask plan (sym five));
                       range = true-T (llrsInRange llrs) seven;

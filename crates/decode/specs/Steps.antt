@@ -27,6 +27,7 @@ pub record Passed (mask plan : List ℕ) (sweeps : ℕ) (llrs : List ℤ) (cycle
   pub sized : length mask ≡ 2 ^ stage
   pub low : stage ≤ 10
   pub values : length llrs ≡ length mask
+  pub some-sweep : 0 < sweeps
   pub few : sweeps ≤ maxSweeps
   pub allowed : Allowed stage plan mask
   pub range : T (llrsInRange llrs)

@@ -25,7 +25,7 @@ pub fn box_plus(w: &mut [i32], d: usize, a: usize, b: usize, c: usize, h: usize)
 }
 
 // w[d + k] = box(w[a + k], w[b + k])
-fn box_at(w: &mut [i32], d: usize, a: usize, b: usize, h: usize)
+pub fn box_at(w: &mut [i32], d: usize, a: usize, b: usize, h: usize)
     requires { ⌜ (d + h ≤ length (now w)) × (a + h ≤ length (now w)) × (b + h ≤ length (now w)) ⌝ }
     requires { ⌜ Apart h d a × Apart h d b ⌝ }
     requires { ⌜ Words (now w) a h × Words (now w) b h ⌝ }

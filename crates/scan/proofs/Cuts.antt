@@ -1,6 +1,6 @@
 -- A visit of a cut node. Assumes nothing.
 use mathlib.Core.Path.{_≡_, refl, sym, ap, ap₂, _∙_, subst}
-use mathlib.Core.Bool.{Bool, true, false, _&&_}
+use mathlib.Core.Bool.{Bool, true, false, cond, _&&_, _||_}
 use mathlib.Core.Option.{Option, none, some}
 use lib.IntN.{ℤ}
 use mathlib.Core.List.{List}
@@ -13,16 +13,18 @@ use lib.Seq.{length-take-le}
 use Rattle.model.specs.Lists.{tabulate}
 use Rattle.model.specs.Soft.{Soft, certain, softZero, _at_, box, plus, wordOf}
 use Rattle.model.specs.Scan.{leaf}
-use Rattle.model.specs.Kinds.{isSome, Kind, rate-0, rate-1, REP, SPC, type-I, type-III, kindOf, shortcut, others}
+use Rattle.model.specs.Kinds.{isSome, isKind, Kind, rate-0, rate-1, REP, SPC, type-I, type-III, kindOf, shortcut, others}
 use Rattle.model.specs.Plans.{isRate01, isCut, wellCut, putKind, put}
 use Rattle.model.specs.Bounds.{limit, Small, Under, cap}
-use Rattle.model.proofs.Lists.{T-true, double, tabulate-ext, getD-tabulate, and-l}
+use Rattle.model.proofs.Lists.{T-true, true-T, double, tabulate-ext, getD-tabulate, and-l, and-r}
 use Rattle.model.proofs.PlannedWalk.{walk-cut}
 use Rattle.model.proofs.Paths.{wellCut-cut}
 use Rattle.model.proofs.Bounds.{shortcut-under, under-mono}
 use Rattle.words.specs.Words.{word, softOf, soft, stored, Incoming}
 use Rattle.words.proofs.Laws.{soft-word, soft-at, small-size}
-use Rattle.scan.specs.Space.{constant, treeAt, part, Room, Visited, cutWords}
+use Rattle.scan.specs.Space.{constant, FixedAs, treeAt, begun, part, Room, Visited, cutWords}
+use Rattle.scan.proofs.Begun.{begun-put}
+use Rattle.scan.proofs.Known.{is-kind}
 use Rattle.scan.proofs.Keep.{Fit, kept-row, node-path, under, stored-at}
 use Rattle.scan.proofs.Runs.{fit-room}
 
@@ -54,7 +56,7 @@ put-tree N (suc t) b x w v M fit e q =
     (under N t b w v (suc t * N + b) (2 ^ suc t) _ e (omega arith) (omega (arith, fit .within)))
     (under N t (b + 2 ^ t) w v (suc t * N + b) (2 ^ suc t) _ e (omega arith) (omega (arith, fit .within)))
 
-module _ (plan mask : List ℕ) (N t s p b x : ℕ) (w v : List ℤ) (room : Room plan mask N t s p b x w) (yes : isCut plan p ≡ true) where
+module _ (plan mask : List ℕ) (N t s p b x : ℕ) (first : Bool) (w v : List ℤ) (room : Room plan mask N t s p b x first w) (yes : isCut plan p ≡ true) where
   abbrev L : List Soft
   L = soft w x (2 ^ t)
 
@@ -89,18 +91,20 @@ module _ (plan mask : List ℕ) (N t s p b x : ℕ) (w v : List ℤ) (room : Roo
       ∙ soft-word limit (shortcut k (2 ^ t) L at j) (omega arith) (message-limit k e j lt))
       ∙ sym (shortcut-list k (2 ^ t) L)
 
-  pub visited-cut : v ≡ cutWords (kindOf (2 ^ t) (part mask b t)) w (t * N + b) x s → Visited plan mask N t p b x w v
+  pub visited-cut : v ≡ cutWords (kindOf (2 ^ t) (part mask b t)) w (t * N + b) x s → Visited plan mask N t p b x first w v
   visited-cut q =
       go (kindOf (2 ^ t) (part mask b t)) refl (wellCut-cut plan t p (part mask b t) yes (room .cuts))
       (q ∙ ap (λ (z : ℕ). cutWords (kindOf (2 ^ t) (part mask b t)) w (t * N + b) x z) (room .size))
     where
-      go : (o : Option Kind) → kindOf (2 ^ t) (part mask b t) ≡ o → T (isSome o) → v ≡ cutWords (kindOf (2 ^ t) (part mask b t)) w (t * N + b) x (2 ^ t) → Visited plan mask N t p b x w v
+      go : (o : Option Kind) → kindOf (2 ^ t) (part mask b t) ≡ o → T (isSome o) → v ≡ cutWords (kindOf (2 ^ t) (part mask b t)) w (t * N + b) x (2 ^ t) → Visited plan mask N t p b x first w v
       go none e k r = absurd k
       go (some k) e y r =
           let r′ : v ≡ stored w (t * N + b) (2 ^ t) (shortcut k (2 ^ t) L) = r ∙ ap (λ (o : Option Kind). cutWords o w (t * N + b) x (2 ^ t)) e in
           record {
             tree = put-tree N t b x w v (shortcut k (2 ^ t) L) (fit-room room) r′ (read-back k e r′)
-                ∙ sym (walk-cut plan t p (part mask b t) (treeAt N w t b) L yes ∙ ap (λ (o : Option Kind). putKind o (2 ^ t) L (treeAt N w t b)) e);
+                ∙ sym (walk-cut plan t p (part mask b t) (begun first plan t p (part mask b t) (treeAt N w t b)) L yes
+                ∙ ap (λ (o : Option Kind). putKind o (2 ^ t) L (begun first plan t p (part mask b t) (treeAt N w t b))) e
+                ∙ begun-put first plan N w t p b (part mask b t) (shortcut k (2 ^ t) L) yes);
             kept = kept-row N t b x w v _ (fit-room room) (t * N + b) (2 ^ t) r′ (omega arith) (omega arith);
           }
 
@@ -120,8 +124,26 @@ kind-part mask b s le =
 pub kind-stage : (mask : List ℕ) (b s t : ℕ) → s ≡ 2 ^ t → kindOf s (take s (drop b mask)) ≡ kindOf (2 ^ t) (part mask b t)
 kind-stage mask b s t size = ap (λ (k : ℕ). kindOf k (take k (drop b mask))) size
 
+-- a node whose message is fixed, in the code's terms
+pub visited-fixed : {plan mask : List ℕ} {N t s p b x : ℕ} {first : Bool} {w v : List ℤ} → Room plan mask N t s p b x first w → (a z : Bool) → FixedAs plan s p (take s (drop b mask)) a z → (a || z) ≡ true
+    → v ≡ stored w (t * N + b) s (shortcut (cond a rate-0 rate-1) s (soft w x s)) → Visited plan mask N t p b x first w v
+visited-fixed {plan} {mask} {N} {t} {s} {p} {b} {x} {first} {w} {v} room a z f skip e = go a z (sym (f .as-certain)) (sym (f .as-zero)) skip e
+  where
+    of-kind : (k : Kind) → (isCut plan p && isKind k (kindOf s (take s (drop b mask)))) ≡ true → v ≡ stored w (t * N + b) s (shortcut k s (soft w x s)) → Visited plan mask N t p b x first w v
+    of-kind k q e =
+        let c : T (isCut plan p && isKind k (kindOf s (take s (drop b mask)))) = true-T _ q in
+        let yes : isCut plan p ≡ true = T-true (isCut plan p) (and-l (isCut plan p) (isKind k (kindOf s (take s (drop b mask)))) c) in
+        let o : kindOf s (take s (drop b mask)) ≡ some k = is-kind k _ (T-true (isKind k (kindOf s (take s (drop b mask)))) (and-r (isCut plan p) (isKind k (kindOf s (take s (drop b mask)))) c)) in
+        visited-cut plan mask N t s p b x first w v room yes (e ∙ ap (λ (i : Option Kind). cutWords i w (t * N + b) x s) (sym o ∙ kind-stage mask b s t (room .size)))
+
+    go : (a z : Bool) → (isCut plan p && isKind rate-0 (kindOf s (take s (drop b mask)))) ≡ a → (isCut plan p && isKind rate-1 (kindOf s (take s (drop b mask)))) ≡ z → (a || z) ≡ true
+        → v ≡ stored w (t * N + b) s (shortcut (cond a rate-0 rate-1) s (soft w x s)) → Visited plan mask N t p b x first w v
+    go true z c d q e = of-kind rate-0 c e
+    go false true c d q e = of-kind rate-1 d e
+    go false false c d q e = absurd (subst T (sym q) tt)
+
 -- what the message of a cut node requires of its incoming list
-pub incoming : {plan mask : List ℕ} {N t s p b x : ℕ} {w : List ℤ} → Room plan mask N t s p b x w → constant plan (2 ^ t) p (part mask b t) ≡ false → Incoming w x s
+pub incoming : {plan mask : List ℕ} {N t s p b x : ℕ} {first : Bool} {w : List ℤ} → Room plan mask N t s p b x first w → constant plan (2 ^ t) p (part mask b t) ≡ false → Incoming w x s
 incoming {t = t} {s = s} {x = x} {w = w} room q = record {
   bound = room .bound;
   small = λ k lt. small-size (room .bound) (word w (x + k)) (subst (Small (room .bound)) (soft-at w x (2 ^ t) k (omega (arith, room .size))) (room .small q k (omega (arith, room .size))));

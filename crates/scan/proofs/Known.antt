@@ -42,7 +42,7 @@ row-kind SPC = refl
 row-kind type-I = refl
 row-kind type-III = refl
 
-is-kind : (k : Kind) (o : Option Kind) → isKind k o ≡ true → o ≡ some k
+pub is-kind : (k : Kind) (o : Option Kind) → isKind k o ≡ true → o ≡ some k
 is-kind k none e = absurd (subst T (sym e) tt)
 is-kind k (some j) e = ap some (sym (row-kind j) ∙ ap (λ (r : ℕ). getD order r rate-0) (sym (eqb-true (row k) (row j) e)) ∙ row-kind k)
 

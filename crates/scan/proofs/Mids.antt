@@ -7,17 +7,18 @@ use Prim.Native.Nat.{ℕ, suc, _+_, _*_, _^_, _≤_, _<_}
 use native.Mathlib.Nat.{suc-mul}
 use native.Mathlib.Omega.{arith}
 use lib.ListN.{length}
-use Rattle.model.specs.Soft.{Soft, _at_, box, plus, mark, wordOf}
+use mathlib.Core.Bool.{Bool}
+use Rattle.model.specs.Soft.{Soft, softZero, _at_, box, plus, mark, wordOf}
 use Rattle.model.specs.Scan.{Tree, message, toLeft, toRight}
 use Rattle.model.specs.Plans.{walk}
 use Rattle.model.specs.Bounds.{limit, Small, Under, SmallAll, UnderAll, cap}
 use Rattle.model.proofs.Lists.{double, tabulate-ext}
-use Rattle.model.proofs.Algebra.{plus-comm}
+use Rattle.model.proofs.Algebra.{plus-comm, plus-zero-r}
 use Rattle.model.proofs.Bounds.{small-box, small-plus, under-box, under-plus, under-mono, small-mono}
-use Rattle.words.specs.Words.{Added, word, softOf, soft, write, Holds, boxWord, addWord, boxPlus, plusBox, Words, Sums, BoxSums, FiniteBoxSums}
+use Rattle.words.specs.Words.{Added, word, softOf, soft, write, Holds, boxWord, addWord, boxAt, boxPlus, plusBox, Words, Sums, BoxSums, FiniteBoxSums}
 use Rattle.words.proofs.Laws.{word-soft, soft-at, small-under, small-size, under-word, soft-box, soft-add, add-word}
 use Rattle.words.proofs.Store.{source-below}
-use Rattle.scan.specs.Space.{treeAt, part, Kept, Visited}
+use Rattle.scan.specs.Space.{treeAt, begun, part, Kept, Visited}
 use Rattle.scan.proofs.Keep.{Fit, kept-refl, kept-trans, kept-scratch, kept-row, kept-child, fit-kept, tree-cong, message-at, under, stored-at}
 
 -- a word of a finite value within `limit`
@@ -41,7 +42,7 @@ module _ (p q r : ℤ) (a b c : Soft) (ea : softOf p ≡ a) (eb : softOf q ≡ b
       soft-box limit (omega arith) p (addWord q r) (subst (Under limit) (sym e) v) ∙ e
 
   -- the box of p and q, and r added
-  box-is : Under limit (box a b) → softOf (boxWord p q) ≡ box a b
+  pub box-is : Under limit (box a b) → softOf (boxWord p q) ≡ box a b
   box-is u = soft-box limit (omega arith) p q (subst (Under limit) (sym (ap₂ box ea eb)) u) ∙ ap₂ box ea eb
 
   plus-box-under : Under limit (box a b) → Under limit (plus (box a b) c) → Under limit (plus (softOf (boxWord p q)) (softOf r))
@@ -86,19 +87,21 @@ module _ (N t b x : ℕ) (w : List ℤ) (fit : Fit N (suc t) b x (length w)) (v 
   }
 
   -- a visit of the left child, of the right child
-  module _ (plan mask : List ℕ) (p : ℕ) (z : List ℤ) where
-    pub mid-left : Visited plan mask N t p b (x + (2 ^ t + 2 ^ t)) v z → Mid N t b x w z (walk plan t p (part mask b t) A (soft v (x + (2 ^ t + 2 ^ t)) (2 ^ t))) B
+  module _ (plan mask : List ℕ) (p : ℕ) (first : Bool) (z : List ℤ) where
+    pub mid-left : Visited plan mask N t p b (x + (2 ^ t + 2 ^ t)) first v z
+        → Mid N t b x w z (walk plan t p (part mask b t) (begun first plan t p (part mask b t) A) (soft v (x + (2 ^ t + 2 ^ t)) (2 ^ t))) B
     mid-left s = record {
       kept = kept-trans (m .kept) (kept-child N t b x b v z (omega arith) (omega arith) (fit .rows) (s .kept));
-      lefts = s .tree ∙ ap (λ (T : Tree). walk plan t p (part mask b t) T (soft v (x + (2 ^ t + 2 ^ t)) (2 ^ t))) (m .lefts);
+      lefts = s .tree ∙ ap (λ (T : Tree). walk plan t p (part mask b t) (begun first plan t p (part mask b t) T) (soft v (x + (2 ^ t + 2 ^ t)) (2 ^ t))) (m .lefts);
       rights = tree-cong N t (b + 2 ^ t) v z (λ u i le low high. s .kept .rows u i le (omega (arith, fit .within, two)) (inr low)) ∙ m .rights;
     }
 
-    pub mid-right : Visited plan mask N t p (b + 2 ^ t) (x + (2 ^ t + 2 ^ t)) v z → Mid N t b x w z A (walk plan t p (part mask (b + 2 ^ t) t) B (soft v (x + (2 ^ t + 2 ^ t)) (2 ^ t)))
+    pub mid-right : Visited plan mask N t p (b + 2 ^ t) (x + (2 ^ t + 2 ^ t)) first v z
+        → Mid N t b x w z A (walk plan t p (part mask (b + 2 ^ t) t) (begun first plan t p (part mask (b + 2 ^ t) t) B) (soft v (x + (2 ^ t + 2 ^ t)) (2 ^ t)))
     mid-right s = record {
       kept = kept-trans (m .kept) (kept-child N t b x (b + 2 ^ t) v z (omega arith) (omega arith) (fit .rows) (s .kept));
       lefts = tree-cong N t b v z (λ u i le low high. s .kept .rows u i le (omega (arith, fit .within, two)) (inl high)) ∙ m .lefts;
-      rights = s .tree ∙ ap (λ (T : Tree). walk plan t p (part mask (b + 2 ^ t) t) T (soft v (x + (2 ^ t + 2 ^ t)) (2 ^ t))) (m .rights);
+      rights = s .tree ∙ ap (λ (T : Tree). walk plan t p (part mask (b + 2 ^ t) t) (begun first plan t p (part mask (b + 2 ^ t) t) T) (soft v (x + (2 ^ t + 2 ^ t)) (2 ^ t))) (m .rights);
     }
 
   -- the right child's incoming list outlasts the child's visit, and so does what it was made of
@@ -169,6 +172,19 @@ module _ (N t b x : ℕ) (w : List ℤ) (fit : Fit N (suc t) b x (length w)) (v 
 
     pub words-list : Words v x (2 ^ t)
     words-list k lt = under-word limit (word v (x + k)) (omega arith) (subst (Under limit) (sym (at-low k lt)) (small-top (soft w x (2 ^ suc t) at k) (low-small k lt)))
+
+    pub words-high : Words v (x + 2 ^ t) (2 ^ t)
+    words-high k lt = under-word limit (word v (x + 2 ^ t + k)) (omega arith) (subst (Under limit) (sym (at-high k lt)) (small-top (soft w x (2 ^ suc t) at (k + 2 ^ t)) (high-small k lt)))
+
+    -- what the left child is handed where the right child's message is 0 everywhere
+    pub left-list-zero : (r : List Soft) → ((k : ℕ) → k < 2 ^ t → r at k ≡ softZero) → (z : List ℤ) → z ≡ write v (x + (2 ^ t + 2 ^ t)) (2 ^ t) (boxAt v x (x + 2 ^ t))
+        → soft z (x + (2 ^ t + 2 ^ t)) (2 ^ t) ≡ toLeft (2 ^ t) (soft w x (2 ^ suc t)) r
+    unfolding soft toLeft
+    left-list-zero r none z e = tabulate-ext (2 ^ t) _ _ (λ k lt.
+        ap softOf (stored-at v z (x + (2 ^ t + 2 ^ t)) (2 ^ t) (boxAt v x (x + 2 ^ t)) k e lt (omega (arith, fit .fit, m .kept .long, two)))
+        ∙ box-is _ _ (pos 0) _ _ _ (at-low k lt) (at-high k lt) refl
+        (small-top (box (soft w x (2 ^ suc t) at k) (soft w x (2 ^ suc t) at (k + 2 ^ t))) (small-box bd (soft w x (2 ^ suc t) at k) (soft w x (2 ^ suc t) at (k + 2 ^ t)) (low-small k lt)))
+        ∙ ap (box (soft w x (2 ^ suc t) at k)) (sym (ap (plus (soft w x (2 ^ suc t) at (k + 2 ^ t))) (none k lt) ∙ plus-zero-r (soft w x (2 ^ suc t) at (k + 2 ^ t)))))
 
     module _ (UA : UnderAll t (cap t (2 * bd)) (message A)) where
       pub words-left : Words v (t * N + b) (2 ^ t)

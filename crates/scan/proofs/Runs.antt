@@ -2,7 +2,7 @@
 use mathlib.Core.Path.{_≡_, refl, sym, ap, ap₂, _∙_, subst, subst₃}
 use mathlib.Core.Bool.{Bool, true, false, cond, _&&_, _||_}
 use lib.IntN.{ℤ, pos}
-use mathlib.Core.List.{List}
+use mathlib.Core.List.{List, []}
 use Prim.Native.Nat.{ℕ, zero, suc, _+_, _-_, _*_, _/_, _^_, _≤_}
 use native.Mathlib.Nat.{suc-mul, mul-add, mul-assoc, mul-comm, mul-le-mul-left, mul-le-mul-right, add-mul}
 use native.Mathlib.Omega.{arith}
@@ -10,26 +10,27 @@ use lib.Dec.{T}
 use mathlib.Core.Option.{Option, none, some}
 use lib.Pow.{pow-pos}
 use lib.ListN.{length, take, drop}
-use Rattle.model.specs.Soft.{Soft, certain, softZero, mark}
-use Rattle.model.specs.Scan.{Tree, message, toLeft, toRight, toNode}
+use Rattle.model.specs.Soft.{Soft, certain, softZero, _at_, mark}
+use Rattle.model.specs.Scan.{Tree, node, message, left, right, toLeft, toRight, toNode}
 use Rattle.model.specs.Kinds.{isSome, Kind, rate-0, rate-1, REP, SPC, type-I, type-III, kindOf, shortcut}
 use Rattle.model.specs.Plans.{isRate01, putKind, isCut, wellCut, walk}
 use Rattle.model.specs.Bounds.{limit, SmallAll, UnderAll, Held, cap}
-use Rattle.model.proofs.Lists.{T-true, true-T, double, tabulate-halves, and-l, and-r}
+use Rattle.model.proofs.Lists.{T-true, true-T, absurd-bool, double, tabulate-halves, and-l, and-r}
 use Rattle.model.proofs.PlannedWalk.{walk-cut, walk-through, descend}
 use Rattle.model.proofs.Paths.{wellCut-cut, wellCut-through}
 use Rattle.model.proofs.Bounds.{cap-suc, small-toLeft, small-toRight, held-walk, held-message}
-use Rattle.words.specs.Words.{FiniteBoxSums, Holds, word, softOf, soft, write, boxPlus, plusBox, Words, Sums, BoxSums}
+use Rattle.words.specs.Words.{FiniteBoxSums, Holds, word, softOf, soft, write, boxAt, boxPlus, plusBox, Words, Sums, BoxSums}
 use Rattle.words.proofs.Store.{source-below, length-write}
-use Rattle.scan.specs.Space.{constant, FixedAs, treeAt, part, Room, Visited}
+use Rattle.scan.specs.Space.{constant, FixedAs, treeAt, begun, part, Room, Visited}
 use Rattle.scan.proofs.Keep.{Fit, node-path, part-left, part-right}
-use Rattle.scan.proofs.Mids.{Mid, mid-start, mid-scratch, mid-row, mid-left, mid-right, words-list, words-left, right-sums, right-stays, right-list, left-sums, left-list, up-sums, low-half, high-half, left-holds, right-holds}
+use Rattle.scan.proofs.Begun.{begun-left, begun-right, begun-zero, leaf-constant}
+use Rattle.scan.proofs.Mids.{Mid, mid-start, mid-scratch, mid-row, mid-left, mid-right, words-list, words-high, words-left, right-sums, right-stays, right-list, left-sums, left-list, left-list-zero, up-sums, low-half, high-half, left-holds, right-holds}
 use Rattle.scan.proofs.Known.{fixed-constant, walk-certain, walk-zero}
 
 -- ---- the stores of an uncut visit: h is half the size, u the stage below, c the place of the child's incoming list
 -- a child's incoming list is stored unless the child is constant
-abbrev pub LeftList : (N b x h u c : ℕ) → Bool → (w v : List ℤ) → Type 0
-LeftList N b x h u c skip w v = v ≡ cond skip w (write w c h (boxPlus w x (x + h) (u * N + b + h)))
+abbrev pub LeftList : (N b x h u c : ℕ) → Bool → Bool → (w v : List ℤ) → Type 0
+LeftList N b x h u c first skip w v = v ≡ cond skip w (write w c h (cond first (boxAt w x (x + h)) (boxPlus w x (x + h) (u * N + b + h))))
 
 abbrev pub RightList : (N b x h u c : ℕ) → Bool → (w v : List ℤ) → Type 0
 RightList N b x h u c skip w v = v ≡ cond skip w (write w c h (plusBox w x (u * N + b) (x + h)))
@@ -46,24 +47,46 @@ SkipOf plan mask h p b skip = skip ≡ constant plan h p (take h (drop b mask))
 abbrev pub Known : List ℕ → List ℕ → (h p b : ℕ) → Bool → Bool → Type 0
 Known plan mask h p b a z = FixedAs plan h p (take h (drop b mask)) a z
 
+-- a list that is left out, and one that is not
+pub no-list : (skip : Bool) (w v : List ℤ) → skip ≡ true → w ≡ cond skip w v
+no-list true w v e = refl
+no-list false w v e = absurd (subst T (sym e) tt)
+
+pub a-list : (skip : Bool) (w v z : List ℤ) → skip ≡ false → z ≡ v → z ≡ cond skip w v
+a-list true w v z e q = absurd (subst T e tt)
+a-list false w v z e q = q
+
+-- a child is done: its incoming list was stored as it should be, and a visit with that list led from there to v
+pub record Done (plan mask : List ℕ) (N u q b c : ℕ) (first : Bool) (Stored : List ℤ → Type 0) (w v : List ℤ) : Type 0 where
+  pub list : List ℤ
+  pub stored : Stored list
+  pub visited : Visited plan mask N u q b c first list v
+  pub long : length v ≡ length w
+
+abbrev pub LeftDone : List ℕ → List ℕ → (N p b x h u c : ℕ) → Bool → Bool → (w v : List ℤ) → Type 0
+LeftDone plan mask N p b x h u c first skip w v = Done plan mask N u (2 * p) b c first (LeftList N b x h u c first skip w) w v
+
+abbrev pub RightDone : List ℕ → List ℕ → (N p b x h u c : ℕ) → Bool → Bool → (w v : List ℤ) → Type 0
+RightDone plan mask N p b x h u c first skip w v = Done plan mask N u (2 * p + 1) (b + h) c first (RightList N b x h u c skip w) w v
+
 -- what each step asks, and what the last one ends
-pub record Run (plan mask : List ℕ) (N t p b x : ℕ) (w : List ℤ) (h u c : ℕ) : Type 0 where
+pub record Run (plan mask : List ℕ) (N t p b x : ℕ) (first : Bool) (w : List ℤ) (h u c : ℕ) : Type 0 where
   pub kind-left : isCut plan (2 * p) ≡ true → T (isSome (kindOf h (take h (drop b mask))))
   pub kind-right : isCut plan (2 * p + 1) ≡ true → T (isSome (kindOf h (take h (drop (b + h) mask))))
-  pub one : Words w x h × Sums w (x + h) (u * N + b + h) h
-  pub two : (a₁ z₁ : Bool) → Known plan mask h (2 * p) b a₁ z₁ → (w₁ : List ℤ) → LeftList N b x h u c (a₁ || z₁) w w₁ → Room plan mask N u h (2 * p) b c w₁
-  pub three : (a₁ z₁ : Bool) → Known plan mask h (2 * p) b a₁ z₁ → (w₁ w₂ : List ℤ) → LeftList N b x h u c (a₁ || z₁) w w₁ → Visited plan mask N u (2 * p) b c w₁ w₂
+  pub one : Words w x h × Words w (x + h) h × (first ≡ false → Sums w (x + h) (u * N + b + h) h)
+  pub two : (a₁ z₁ : Bool) → Known plan mask h (2 * p) b a₁ z₁ → (w₁ : List ℤ) → LeftList N b x h u c first (a₁ || z₁) w w₁ → Room plan mask N u h (2 * p) b c first w₁
+  pub three : (a₁ z₁ : Bool) → Known plan mask h (2 * p) b a₁ z₁ → (w₂ : List ℤ) → LeftDone plan mask N p b x h u c first (a₁ || z₁) w w₂
       → (Words w₂ x h × Words w₂ (u * N + b) h × FiniteBoxSums w₂ x (u * N + b) (x + h) h) × (a₁ ≡ true → Holds w₂ (u * N + b) h (λ k. pos mark))
-  pub four : (a₁ z₁ : Bool) → Known plan mask h (2 * p) b a₁ z₁ → (w₁ w₂ : List ℤ) → LeftList N b x h u c (a₁ || z₁) w w₁ → Visited plan mask N u (2 * p) b c w₁ w₂
-      → (a₃ z₃ : Bool) → Known plan mask h (2 * p + 1) (b + h) a₃ z₃ → (w₃ : List ℤ) → RightList N b x h u c (a₃ || z₃) w₂ w₃ → Room plan mask N u h (2 * p + 1) (b + h) c w₃
-  pub five : (a₁ z₁ : Bool) → Known plan mask h (2 * p) b a₁ z₁ → (w₁ w₂ : List ℤ) → LeftList N b x h u c (a₁ || z₁) w w₁ → Visited plan mask N u (2 * p) b c w₁ w₂
-      → (a₃ z₃ : Bool) → Known plan mask h (2 * p + 1) (b + h) a₃ z₃ → (w₃ w₄ : List ℤ) → RightList N b x h u c (a₃ || z₃) w₂ w₃ → Visited plan mask N u (2 * p + 1) (b + h) c w₃ w₄
+  pub four : (a₁ z₁ : Bool) → Known plan mask h (2 * p) b a₁ z₁ → (w₂ : List ℤ) → LeftDone plan mask N p b x h u c first (a₁ || z₁) w w₂
+      → (a₃ z₃ : Bool) → Known plan mask h (2 * p + 1) (b + h) a₃ z₃ → (w₃ : List ℤ) → RightList N b x h u c (a₃ || z₃) w₂ w₃ → Room plan mask N u h (2 * p + 1) (b + h) c first w₃
+  pub five : (a₁ z₁ : Bool) → Known plan mask h (2 * p) b a₁ z₁ → (w₂ : List ℤ) → LeftDone plan mask N p b x h u c first (a₁ || z₁) w w₂
+      → (a₃ z₃ : Bool) → Known plan mask h (2 * p + 1) (b + h) a₃ z₃ → (w₄ : List ℤ) → RightDone plan mask N p b x h u c first (a₃ || z₃) w₂ w₄
       → (Words w₄ x h × Words w₄ (u * N + b) h × Sums w₄ (x + h) (u * N + b + h) h × BoxSums w₄ x (u * N + b) (u * N + b + h) h × FiniteBoxSums w₄ x (u * N + b) (x + h) h)
       × ((a₁ ≡ true → Holds w₄ (u * N + b) h (λ k. pos mark)) × ((z₃ ≡ true → Holds w₄ (u * N + b + h) h (λ k. pos 0))
       × ((a₃ || z₃) ≡ false → Holds w₄ c h (plusBox w₄ x (u * N + b) (x + h)))))
-  pub done : (a₁ z₁ : Bool) → Known plan mask h (2 * p) b a₁ z₁ → (w₁ w₂ : List ℤ) → LeftList N b x h u c (a₁ || z₁) w w₁ → Visited plan mask N u (2 * p) b c w₁ w₂
-      → (a₃ z₃ : Bool) → Known plan mask h (2 * p + 1) (b + h) a₃ z₃ → (w₃ w₄ : List ℤ) → RightList N b x h u c (a₃ || z₃) w₂ w₃ → Visited plan mask N u (2 * p + 1) (b + h) c w₃ w₄
-      → (w₅ : List ℤ) → NodeStored N t b x h u w₄ w₅ → Visited plan mask N t p b x w w₅
+  pub done : (a₁ z₁ : Bool) → Known plan mask h (2 * p) b a₁ z₁ → (w₂ : List ℤ) → LeftDone plan mask N p b x h u c first (a₁ || z₁) w w₂
+      → (a₃ z₃ : Bool) → Known plan mask h (2 * p + 1) (b + h) a₃ z₃ → (w₄ : List ℤ) → RightDone plan mask N p b x h u c first (a₃ || z₃) w₂ w₄
+      → (w₅ : List ℤ) → NodeStored N t b x h u w₄ w₅ → Visited plan mask N t p b x first w w₅
 
 -- ---- a constant node's walk does not depend on what it is handed
 rate01-same : (o : Option Kind) (m : ℕ) (L L′ : List Soft) (P : Tree) → isRate01 o ≡ true → putKind o m L P ≡ putKind o m L′ P
@@ -83,10 +106,10 @@ walk-constant plan t p mask P L L′ e =
     let r : isRate01 (kindOf (2 ^ t) mask) ≡ true = T-true (isRate01 (kindOf (2 ^ t) mask)) (and-r (isCut plan p) (isRate01 (kindOf (2 ^ t) mask)) c) in
     walk-cut plan t p mask P L q ∙ rate01-same (kindOf (2 ^ t) mask) (2 ^ t) L L′ P r ∙ sym (walk-cut plan t p mask P L′ q)
 
-pub fit-room : {plan mask : List ℕ} {N t s p b x : ℕ} {w : List ℤ} → Room plan mask N t s p b x w → Fit N t b x (length w)
+pub fit-room : {plan mask : List ℕ} {N t s p b x : ℕ} {first : Bool} {w : List ℤ} → Room plan mask N t s p b x first w → Fit N t b x (length w)
 fit-room r = record { fit = omega (arith, r .size, r .fit); rows = r .rows; within = omega (arith, r .size, r .within) }
 
-module _ (plan mask : List ℕ) (N t s p b x : ℕ) (w : List ℤ) (room : Room plan mask N (suc t) s p b x w) (uncut : isCut plan p ≡ false) where
+module _ (plan mask : List ℕ) (N t s p b x : ℕ) (first : Bool) (w : List ℤ) (room : Room plan mask N (suc t) s p b x first w) (uncut : isCut plan p ≡ false) where
   abbrev h : ℕ
   h = 2 ^ t
 
@@ -105,11 +128,29 @@ module _ (plan mask : List ℕ) (N t s p b x : ℕ) (w : List ℤ) (room : Room 
   abbrev TB : Tree
   TB = treeAt N w t (b + 2 ^ t)
 
+  -- what the sweep takes for the children's states
+  abbrev BA : Tree
+  BA = begun first plan t (2 * p) (part mask b t) TA
+
+  abbrev BB : Tree
+  BB = begun first plan t (2 * p + 1) (part mask (b + 2 ^ t) t) TB
+
   abbrev A : Tree
-  A = walk plan t (2 * p) (part mask b t) TA (toLeft h L (message TB))
+  A = walk plan t (2 * p) (part mask b t) BA (toLeft h L (message BB))
 
   abbrev B : Tree
-  B = walk plan t (2 * p + 1) (part mask (b + 2 ^ t) t) TB (toRight h L (message A))
+  B = walk plan t (2 * p + 1) (part mask (b + 2 ^ t) t) BB (toRight h L (message A))
+
+  abbrev whole : Tree
+  whole = begun first plan (suc t) p (part mask b (suc t)) (treeAt N w (suc t) b)
+
+  whole-left : left whole ≡ BA
+  unfolding treeAt
+  whole-left = begun-left first plan t p (part mask b (suc t)) (treeAt N w (suc t) b) uncut ∙ ap (λ (q : List ℕ). begun first plan t (2 * p) q TA) (part-left mask b t)
+
+  whole-right : right whole ≡ BB
+  unfolding treeAt
+  whole-right = begun-right first plan t p (part mask b (suc t)) (treeAt N w (suc t) b) uncut ∙ ap (λ (q : List ℕ). begun first plan t (2 * p + 1) q TB) (part-right mask b t)
 
   fits : Fit N (suc t) b x (length w)
   fits = fit-room room
@@ -149,22 +190,21 @@ module _ (plan mask : List ℕ) (N t s p b x : ℕ) (w : List ℤ) (room : Room 
   wr = subst (λ (q : List ℕ). T (wellCut plan t (2 * p + 1) q)) (part-right mask b t) (and-r (wellCut plan t (2 * p) (take (2 ^ t) (part mask b (suc t)))) (wellCut plan t (2 * p + 1) (drop (2 ^ t) (part mask b (suc t)))) ww)
 
   -- the bounds of the children's messages, before and after
-  HTA : Held plan t (2 * p) (2 * bd) TA
-  unfolding treeAt
-  HTA = room .held .1 uncut .0
+  HBA : Held plan t (2 * p) (2 * bd) BA
+  HBA = subst (Held plan t (2 * p) (2 * bd)) whole-left (room .held .1 uncut .0)
 
-  HTB : Held plan t (2 * p + 1) (2 * bd) TB
-  unfolding treeAt
-  HTB = room .held .1 uncut .1
+  HBB : Held plan t (2 * p + 1) (2 * bd) BB
+  HBB = subst (Held plan t (2 * p + 1) (2 * bd)) whole-right (room .held .1 uncut .1)
 
   HA : Held plan t (2 * p) (2 * bd) A
-  HA = held-walk plan t (2 * p) (part mask b t) (2 * bd) TA (toLeft h L (message TB)) wl (small-toLeft t bd L S (message TB)) HTA
+  HA = held-walk plan t (2 * p) (part mask b t) (2 * bd) BA (toLeft h L (message BB)) wl (small-toLeft t bd L S (message BB)) HBA
 
   HB : Held plan t (2 * p + 1) (2 * bd) B
-  HB = held-walk plan t (2 * p + 1) (part mask (b + 2 ^ t) t) (2 * bd) TB (toRight h L (message A)) wr (small-toRight t bd L S (message A)) HTB
+  HB = held-walk plan t (2 * p + 1) (part mask (b + 2 ^ t) t) (2 * bd) BB (toRight h L (message A)) wr (small-toRight t bd L S (message A)) HBB
 
-  UTB : UnderAll t (cap t (2 * bd)) (message TB)
-  UTB = held-message plan t (2 * p + 1) (2 * bd) TB HTB
+  -- what is stored of the right child matters in a later sweep
+  UTB : first ≡ false → UnderAll t (cap t (2 * bd)) (message TB)
+  UTB q = held-message plan t (2 * p + 1) (2 * bd) TB (subst (λ (f : Bool). Held plan t (2 * p + 1) (2 * bd) (begun f plan t (2 * p + 1) (part mask (b + 2 ^ t) t) TB)) q HBB)
 
   UA : UnderAll t (cap t (2 * bd)) (message A)
   UA = held-message plan t (2 * p) (2 * bd) A HA
@@ -175,18 +215,31 @@ module _ (plan mask : List ℕ) (N t s p b x : ℕ) (w : List ℤ) (room : Room 
   m₀ : Mid N t b x w w TA TB
   m₀ = mid-start N t b x w
 
-  module _ (s₁ : Bool) (k₁ : SkipOf plan mask h (2 * p) b s₁) (w₁ : List ℤ) (e₁ : LeftList N b x h t c s₁ w w₁) where
+  module _ (s₁ : Bool) (k₁ : SkipOf plan mask h (2 * p) b s₁) (w₁ : List ℤ) (e₁ : LeftList N b x h t c first s₁ w w₁) where
     m₁ : Mid N t b x w w₁ TA TB
     m₁ = go s₁ e₁
       where
-        go : (s : Bool) → LeftList N b x h t c s w w₁ → Mid N t b x w w₁ TA TB
+        go : (s : Bool) → LeftList N b x h t c first s w w₁ → Mid N t b x w w₁ TA TB
         go true e = subst (λ (z : List ℤ). Mid N t b x w z TA TB) (sym e) m₀
         go false e = mid-scratch N t b x w fits w TA TB m₀ w₁ _ e
 
-    in₁ : s₁ ≡ false → soft w₁ c h ≡ toLeft h L (message TB)
-    in₁ q = left-list N t b x w fits w TA TB m₀ bd S lim UTB w₁ (e₁ ∙ ap (λ (s : Bool). cond s w (write w c h (boxPlus w x (x + h) (t * N + b + h)))) q)
+    -- a leaf's list is not looked at
+    no-leaf : s₁ ≡ false → t ≡ 0 → ⊥
+    no-leaf q z = absurd-bool (constant plan h (2 * p) (part mask b t)) (subst (λ (u : ℕ). T (wellCut plan u (2 * p) (part mask b u)) → constant plan (2 ^ u) (2 * p) (part mask b u) ≡ true) (sym z) (leaf-constant plan (2 * p) (part mask b 0)) wl) (sym k₁ ∙ q)
 
-    room₁ : Room plan mask N t h (2 * p) b c w₁
+    in₁ : s₁ ≡ false → soft w₁ c h ≡ toLeft h L (message BB)
+    in₁ q = go first refl
+      where
+        stored₁ : (f : Bool) → first ≡ f → w₁ ≡ write w c h (cond f (boxAt w x (x + h)) (boxPlus w x (x + h) (t * N + b + h)))
+        stored₁ f e = e₁ ∙ ap₂ (λ (s g : Bool). cond s w (write w c h (cond g (boxAt w x (x + h)) (boxPlus w x (x + h) (t * N + b + h))))) q e
+
+        go : (f : Bool) → first ≡ f → soft w₁ c h ≡ toLeft h L (message BB)
+        go true e = left-list-zero N t b x w fits w TA TB m₀ bd S lim (message BB)
+            (λ k lt. ap (λ (f : Bool). message (begun f plan t (2 * p + 1) (part mask (b + 2 ^ t) t) TB) at k) e ∙ begun-zero plan t (2 * p + 1) (part mask (b + 2 ^ t) t) TB (no-leaf q) k lt) w₁ (stored₁ true e)
+        go false e = left-list N t b x w fits w TA TB m₀ bd S lim (UTB e) w₁ (stored₁ false e)
+            ∙ ap (λ (f : Bool). toLeft h L (message (begun f plan t (2 * p + 1) (part mask (b + 2 ^ t) t) TB))) (sym e)
+
+    room₁ : Room plan mask N t h (2 * p) b c first w₁
     room₁ = record {
       size = refl;
       fit = omega (arith, fits .fit, is-two, m₁ .kept .long);
@@ -197,21 +250,21 @@ module _ (plan mask : List ℕ) (N t s p b x : ℕ) (w : List ℤ) (room : Room 
       cuts = wl;
       bound = 2 * bd;
       limited = limit′;
-      small = λ q. subst (SmallAll t (2 * bd)) (sym (in₁ (k₁ ∙ q))) (small-toLeft t bd L S (message TB));
-      held = subst (Held plan t (2 * p) (2 * bd)) (sym (m₁ .lefts)) HTA;
+      small = λ q. subst (SmallAll t (2 * bd)) (sym (in₁ (k₁ ∙ q))) (small-toLeft t bd L S (message BB));
+      held = subst (λ (X : Tree). Held plan t (2 * p) (2 * bd) (begun first plan t (2 * p) (part mask b t) X)) (sym (m₁ .lefts)) HBA;
     }
       where
         planned-low : (2 * p + 1) * h ≤ length plan
         planned-low = omega (arith, room .planned, ap (λ (z : ℕ). (p + 1) * z) (room .size ∙ is-two), mul-add (p + 1) h h, add-mul p 1 h, add-mul (2 * p) 1 h, mul-assoc 2 p h)
 
     -- the left child's walk
-    left-walk : (s : Bool) → s₁ ≡ s → walk plan t (2 * p) (part mask b t) TA (soft w₁ c h) ≡ A
-    left-walk true q = walk-constant plan t (2 * p) (part mask b t) TA (soft w₁ c h) (toLeft h L (message TB)) (sym k₁ ∙ q)
-    left-walk false q = ap (walk plan t (2 * p) (part mask b t) TA) (in₁ q)
+    left-walk : (s : Bool) → s₁ ≡ s → walk plan t (2 * p) (part mask b t) BA (soft w₁ c h) ≡ A
+    left-walk true q = walk-constant plan t (2 * p) (part mask b t) BA (soft w₁ c h) (toLeft h L (message BB)) (sym k₁ ∙ q)
+    left-walk false q = ap (walk plan t (2 * p) (part mask b t) BA) (in₁ q)
 
-    module _ (w₂ : List ℤ) (v₂ : Visited plan mask N t (2 * p) b c w₁ w₂) where
+    module _ (w₂ : List ℤ) (v₂ : Visited plan mask N t (2 * p) b c first w₁ w₂) where
       m₂ : Mid N t b x w w₂ A TB
-      m₂ = subst (λ (T : Tree). Mid N t b x w w₂ T TB) (left-walk s₁ refl) (mid-left N t b x w fits w₁ TA TB m₁ plan mask (2 * p) w₂ v₂)
+      m₂ = subst (λ (T : Tree). Mid N t b x w w₂ T TB) (left-walk s₁ refl) (mid-left N t b x w fits w₁ TA TB m₁ plan mask (2 * p) first w₂ v₂)
 
       module _ (s₃ : Bool) (k₃ : SkipOf plan mask h (2 * p + 1) (b + h) s₃) (w₃ : List ℤ) (e₃ : RightList N b x h t c s₃ w₂ w₃) where
         m₃ : Mid N t b x w w₃ A TB
@@ -227,7 +280,7 @@ module _ (plan mask : List ℕ) (N t s p b x : ℕ) (w : List ℤ) (room : Room 
         in₃ : s₃ ≡ false → soft w₃ c h ≡ toRight h L (message A)
         in₃ q = right-list N t b x w fits w₂ A TB m₂ bd S lim UA lim₂ w₃ (stored₃ q)
 
-        room₃ : Room plan mask N t h (2 * p + 1) (b + h) c w₃
+        room₃ : Room plan mask N t h (2 * p + 1) (b + h) c first w₃
         room₃ = record {
           size = refl;
           fit = omega (arith, fits .fit, is-two, m₃ .kept .long);
@@ -239,20 +292,20 @@ module _ (plan mask : List ℕ) (N t s p b x : ℕ) (w : List ℤ) (room : Room 
           bound = 2 * bd;
           limited = limit′;
           small = λ q. subst (SmallAll t (2 * bd)) (sym (in₃ (k₃ ∙ q))) (small-toRight t bd L S (message A));
-          held = subst (Held plan t (2 * p + 1) (2 * bd)) (sym (m₃ .rights)) HTB;
+          held = subst (λ (X : Tree). Held plan t (2 * p + 1) (2 * bd) (begun first plan t (2 * p + 1) (part mask (b + 2 ^ t) t) X)) (sym (m₃ .rights)) HBB;
         }
           where
             planned-high : (2 * p + 1 + 1) * h ≤ length plan
             planned-high = omega (arith, room .planned, ap (λ (z : ℕ). (p + 1) * z) (room .size ∙ is-two), mul-add (p + 1) h h, add-mul p 1 h, add-mul (2 * p) 1 h, add-mul (2 * p + 1) 1 h, mul-assoc 2 p h)
 
         -- the right child's walk
-        right-walk : (s : Bool) → s₃ ≡ s → walk plan t (2 * p + 1) (part mask (b + 2 ^ t) t) TB (soft w₃ c h) ≡ B
-        right-walk true q = walk-constant plan t (2 * p + 1) (part mask (b + 2 ^ t) t) TB (soft w₃ c h) (toRight h L (message A)) (sym k₃ ∙ q)
-        right-walk false q = ap (walk plan t (2 * p + 1) (part mask (b + 2 ^ t) t) TB) (in₃ q)
+        right-walk : (s : Bool) → s₃ ≡ s → walk plan t (2 * p + 1) (part mask (b + 2 ^ t) t) BB (soft w₃ c h) ≡ B
+        right-walk true q = walk-constant plan t (2 * p + 1) (part mask (b + 2 ^ t) t) BB (soft w₃ c h) (toRight h L (message A)) (sym k₃ ∙ q)
+        right-walk false q = ap (walk plan t (2 * p + 1) (part mask (b + 2 ^ t) t) BB) (in₃ q)
 
-        module _ (w₄ : List ℤ) (v₄ : Visited plan mask N t (2 * p + 1) (b + h) c w₃ w₄) where
+        module _ (w₄ : List ℤ) (v₄ : Visited plan mask N t (2 * p + 1) (b + h) c first w₃ w₄) where
           m₄ : Mid N t b x w w₄ A B
-          m₄ = subst (λ (T : Tree). Mid N t b x w w₄ A T) (right-walk s₃ refl) (mid-right N t b x w fits w₃ A TB m₃ plan mask (2 * p + 1) w₄ v₄)
+          m₄ = subst (λ (T : Tree). Mid N t b x w w₄ A T) (right-walk s₃ refl) (mid-right N t b x w fits w₃ A TB m₃ plan mask (2 * p + 1) first w₄ v₄)
 
           listed₄ : s₃ ≡ false → Holds w₄ c h (plusBox w₄ x (t * N + b) (x + h))
           listed₄ q = right-stays N t b x w fits w₂ A TB m₂ w₃ w₄ (stored₃ q) (v₄ .kept)
@@ -278,12 +331,13 @@ module _ (plan mask : List ℕ) (N t s p b x : ℕ) (w : List ℤ) (room : Room 
                 (λ k lt. sym (ap (λ (i : ℕ). softOf (word w₅ i)) (let q : suc t * N + b + (k + h) ≡ suc t * N + b + h + k = omega arith in q)
                 ∙ high-half N t b x w fits w₄ A B m₄ bd S lim UB UA half w₅ (length-write (pos 0) w₄ (suc t * N + b) h _) e₅ k lt)))
 
-            visited : Visited plan mask N (suc t) p b x w w₅
+            visited : Visited plan mask N (suc t) p b x first w w₅
             unfolding treeAt
             visited = record {
               tree = node-path own (m₅ .lefts) (m₅ .rights)
-                  ∙ sym (walk-through plan t p (part mask b (suc t)) (treeAt N w (suc t) b) L uncut
-                  ∙ ap₂ (λ (q r : List ℕ). descend (walk plan t (2 * p) q) (walk plan t (2 * p + 1) r) (2 ^ t) (treeAt N w (suc t) b) L) (part-left mask b t) (part-right mask b t));
+                  ∙ sym (walk-through plan t p (part mask b (suc t)) whole L uncut
+                  ∙ ap₂ (λ (q r : List ℕ). descend (walk plan t (2 * p) q) (walk plan t (2 * p + 1) r) (2 ^ t) whole L) (part-left mask b t) (part-right mask b t)
+                  ∙ ap₂ (λ (X Y : Tree). descend (walk plan t (2 * p) (part mask b t)) (walk plan t (2 * p + 1) (part mask (b + 2 ^ t) t)) (2 ^ t) (node [] X Y) L) whole-left whole-right);
               kept = m₅ .kept;
             }
 
@@ -294,20 +348,20 @@ module _ (plan mask : List ℕ) (N t s p b x : ℕ) (w : List ℤ) (room : Room 
   skip-right : (a z : Bool) → Known plan mask h (2 * p + 1) (b + h) a z → SkipOf plan mask h (2 * p + 1) (b + h) (a || z)
   skip-right a z f = fixed-constant plan h (2 * p + 1) (part mask (b + 2 ^ t) t) a z f
 
-  pub run-at : Run plan mask N (suc t) p b x w (2 ^ t) t (x + (2 ^ t + 2 ^ t))
+  pub run-at : Run plan mask N (suc t) p b x first w (2 ^ t) t (x + (2 ^ t + 2 ^ t))
   run-at = record {
     kind-left = λ e. wellCut-cut plan t (2 * p) (part mask b t) e wl;
     kind-right = λ e. wellCut-cut plan t (2 * p + 1) (part mask (b + 2 ^ t) t) e wr;
-    one = (words-list N t b x w fits w TA TB m₀ bd S lim, left-sums N t b x w fits w TA TB m₀ bd S lim UTB);
+    one = (words-list N t b x w fits w TA TB m₀ bd S lim, words-high N t b x w fits w TA TB m₀ bd S lim, λ q. left-sums N t b x w fits w TA TB m₀ bd S lim (UTB q));
     two = λ a₁ z₁ f₁ w₁ e₁. room₁ (a₁ || z₁) (skip-left a₁ z₁ f₁) w₁ e₁;
-    three = λ a₁ z₁ f₁ w₁ w₂ e₁ v₂.
-        let m = m₂ (a₁ || z₁) (skip-left a₁ z₁ f₁) w₁ e₁ w₂ v₂ in (
+    three = λ a₁ z₁ f₁ w₂ d₂.
+        let m = m₂ (a₁ || z₁) (skip-left a₁ z₁ f₁) (d₂ .list) (d₂ .stored) w₂ (d₂ .visited) in (
           (words-list N t b x w fits w₂ A TB m bd S lim, words-left N t b x w fits w₂ A TB m bd S lim UA, right-sums N t b x w fits w₂ A TB m bd S lim UA lim₂),
-          λ q. left-holds N t b x w fits w₂ A TB m certain (walk-certain plan t (2 * p) (part mask b t) TA (toLeft h L (message TB)) a₁ z₁ f₁ q),
+          λ q. left-holds N t b x w fits w₂ A TB m certain (walk-certain plan t (2 * p) (part mask b t) BA (toLeft h L (message BB)) a₁ z₁ f₁ q),
         );
-    four = λ a₁ z₁ f₁ w₁ w₂ e₁ v₂ a₃ z₃ f₃ w₃ e₃. room₃ (a₁ || z₁) (skip-left a₁ z₁ f₁) w₁ e₁ w₂ v₂ (a₃ || z₃) (skip-right a₃ z₃ f₃) w₃ e₃;
-    five = λ a₁ z₁ f₁ w₁ w₂ e₁ v₂ a₃ z₃ f₃ w₃ w₄ e₃ v₄.
-        let m = m₄ (a₁ || z₁) (skip-left a₁ z₁ f₁) w₁ e₁ w₂ v₂ (a₃ || z₃) (skip-right a₃ z₃ f₃) w₃ e₃ w₄ v₄ in (
+    four = λ a₁ z₁ f₁ w₂ d₂ a₃ z₃ f₃ w₃ e₃. room₃ (a₁ || z₁) (skip-left a₁ z₁ f₁) (d₂ .list) (d₂ .stored) w₂ (d₂ .visited) (a₃ || z₃) (skip-right a₃ z₃ f₃) w₃ e₃;
+    five = λ a₁ z₁ f₁ w₂ d₂ a₃ z₃ f₃ w₄ d₄.
+        let m = m₄ (a₁ || z₁) (skip-left a₁ z₁ f₁) (d₂ .list) (d₂ .stored) w₂ (d₂ .visited) (a₃ || z₃) (skip-right a₃ z₃ f₃) (d₄ .list) (d₄ .stored) w₄ (d₄ .visited) in (
           (
             words-list N t b x w fits w₄ A B m bd S lim,
             words-left N t b x w fits w₄ A B m bd S lim UA,
@@ -316,22 +370,23 @@ module _ (plan mask : List ℕ) (N t s p b x : ℕ) (w : List ℤ) (room : Room 
             right-sums N t b x w fits w₄ A B m bd S lim UA lim₂,
           ),
           (
-            λ q. left-holds N t b x w fits w₄ A B m certain (walk-certain plan t (2 * p) (part mask b t) TA (toLeft h L (message TB)) a₁ z₁ f₁ q),
+            λ q. left-holds N t b x w fits w₄ A B m certain (walk-certain plan t (2 * p) (part mask b t) BA (toLeft h L (message BB)) a₁ z₁ f₁ q),
             (
-              λ q. right-holds N t b x w fits w₄ A B m softZero (walk-zero plan t (2 * p + 1) (part mask (b + 2 ^ t) t) TB (toRight h L (message A)) a₃ z₃ f₃ q),
-              listed₄ (a₁ || z₁) (skip-left a₁ z₁ f₁) w₁ e₁ w₂ v₂ (a₃ || z₃) (skip-right a₃ z₃ f₃) w₃ e₃ w₄ v₄,
+              λ q. right-holds N t b x w fits w₄ A B m softZero (walk-zero plan t (2 * p + 1) (part mask (b + 2 ^ t) t) BB (toRight h L (message A)) a₃ z₃ f₃ q),
+              listed₄ (a₁ || z₁) (skip-left a₁ z₁ f₁) (d₂ .list) (d₂ .stored) w₂ (d₂ .visited) (a₃ || z₃) (skip-right a₃ z₃ f₃) (d₄ .list) (d₄ .stored) w₄ (d₄ .visited),
             ),
           ),
         );
-    done = λ a₁ z₁ f₁ w₁ w₂ e₁ v₂ a₃ z₃ f₃ w₃ w₄ e₃ v₄ w₅ e₅. visited (a₁ || z₁) (skip-left a₁ z₁ f₁) w₁ e₁ w₂ v₂ (a₃ || z₃) (skip-right a₃ z₃ f₃) w₃ e₃ w₄ v₄ w₅ e₅;
+    done = λ a₁ z₁ f₁ w₂ d₂ a₃ z₃ f₃ w₄ d₄ w₅ e₅. visited (a₁ || z₁) (skip-left a₁ z₁ f₁) (d₂ .list) (d₂ .stored) w₂ (d₂ .visited) (a₃ || z₃) (skip-right a₃ z₃ f₃) (d₄ .list) (d₄ .stored) w₄ (d₄ .visited) w₅ e₅;
   }
 
 -- the same in the code's terms
-pub run : (plan mask : List ℕ) (N t s p b x : ℕ) (w : List ℤ) → (t ≡ 0 → ⊥) → Room plan mask N t s p b x w → isCut plan p ≡ false → Run plan mask N t p b x w (s / 2) (t - 1) (x + s)
-run plan mask N zero s p b x w ne room uncut = absurd (ne refl)
-run plan mask N (suc t) s p b x w ne room uncut =
+pub run : (plan mask : List ℕ) (N t s p b x : ℕ) (first : Bool) (w : List ℤ) → (t ≡ 0 → ⊥) → Room plan mask N t s p b x first w → isCut plan p ≡ false
+    → Run plan mask N t p b x first w (s / 2) (t - 1) (x + s)
+run plan mask N zero s p b x first w ne room uncut = absurd (ne refl)
+run plan mask N (suc t) s p b x first w ne room uncut =
     let two : s ≡ 2 ^ t + 2 ^ t = room .size ∙ double t in
     let is-half : 2 ^ t ≡ s / 2 = omega arith in
     let is-pred : t ≡ suc t - 1 = omega arith in
     let is-at : x + (2 ^ t + 2 ^ t) ≡ x + s = omega arith in
-    subst₃ (λ (h′ u′ c′ : ℕ). Run plan mask N (suc t) p b x w h′ u′ c′) is-half is-pred is-at (run-at plan mask N t s p b x w room uncut)
+    subst₃ (λ (h′ u′ c′ : ℕ). Run plan mask N (suc t) p b x first w h′ u′ c′) is-half is-pred is-at (run-at plan mask N t s p b x first w room uncut)

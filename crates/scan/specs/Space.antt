@@ -1,16 +1,16 @@
 -- The lent words as a tree of messages, and what a visit and a sweep leave in them. Assumes nothing: these are definitions.
 use mathlib.Core.Path.{_≡_}
 use mathlib.Core.Logic.{_⊎_}
-use mathlib.Core.Bool.{Bool, false, _&&_}
+use mathlib.Core.Bool.{Bool, false, cond, _&&_}
 use mathlib.Core.Option.{Option, none, some}
 use mathlib.Core.List.{List}
 use Prim.Native.Nat.{ℕ, zero, suc, _+_, _*_, _^_, _≤_, _<_}
 use lib.IntN.{ℤ, natAbs}
 use lib.Dec.{T}
 use lib.ListN.{length, take, drop}
-use Rattle.model.specs.Scan.{Tree, leaf, node, sweeps}
+use Rattle.model.specs.Scan.{Tree, leaf, node, message, left, right, start, sweeps}
 use Rattle.model.specs.Kinds.{Kind, rate-0, rate-1, kindOf, isKind, shortcut}
-use Rattle.model.specs.Plans.{isCut, isRate01, wellCut, walk, Stays, Allowed}
+use Rattle.model.specs.Plans.{isCut, isRate01, wellCut, put, walk, Stays, Allowed}
 use Rattle.model.specs.Bounds.{SmallAll, Held, limit}
 use Rattle.words.specs.Words.{word, soft, stored}
 
@@ -18,6 +18,17 @@ use Rattle.words.specs.Words.{word, soft, stored}
 unfoldable pub treeAt : ℕ → List ℤ → ℕ → ℕ → Tree
 treeAt N w zero b = leaf (soft w (0 * N + b) 1)
 treeAt N w (suc t) b = node (soft w (suc t * N + b) (2 ^ suc t)) (treeAt N w t b) (treeAt N w t (b + 2 ^ t))
+
+-- the state that holds at the cuts of a plan and above them what S holds, and below them what T holds
+unfoldable pub overlaid : List ℕ → ℕ → ℕ → Tree → Tree → Tree
+overlaid plan zero p S T = S
+overlaid plan (suc t) p S T =
+    cond (isCut plan p) (put (message S) T)
+    (node (message S) (overlaid plan t (2 * p) (left S) (left T)) (overlaid plan t (2 * p + 1) (right S) (right T)))
+
+-- the state that a sweep begins with, where T is stored: the first one takes the messages at the cuts and above them as they are before the first sweep
+abbrev pub begun : Bool → List ℕ → ℕ → ℕ → List ℕ → Tree → Tree
+begun first plan t p mask T = cond first (overlaid plan t p (start t mask) T) T
 
 -- the part of the mask of that node
 abbrev pub part : List ℕ → ℕ → ℕ → List ℕ
@@ -34,8 +45,8 @@ pub record FixedAs (plan : List ℕ) (m p : ℕ) (mask : List ℕ) (certain zero
   pub as-zero : zero ≡ (isCut plan p && isKind rate-1 (kindOf m mask))
 
 -- what a visit of node p at stage t, of s positions from b on, with its incoming list at x, requires.
--- Messages below a cut are not mentioned.
-pub record Room (plan mask : List ℕ) (N t s p b x : ℕ) (w : List ℤ) : Type 0 where
+-- Messages below a cut are not mentioned, nor are stored messages in the first sweep.
+pub record Room (plan mask : List ℕ) (N t s p b x : ℕ) (first : Bool) (w : List ℤ) : Type 0 where
   pub size : s ≡ 2 ^ t
   pub fit : x + (s + s) ≤ length w
   pub rows : t * N + N ≤ x
@@ -47,7 +58,7 @@ pub record Room (plan mask : List ℕ) (N t s p b x : ℕ) (w : List ℤ) : Type
   pub bound : ℕ
   pub limited : bound * 2 ^ t ≤ limit
   pub small : constant plan (2 ^ t) p (part mask b t) ≡ false → SmallAll t bound (soft w x (2 ^ t))
-  pub held : Held plan t p bound (treeAt N w t b)
+  pub held : Held plan t p bound (begun first plan t p (part mask b t) (treeAt N w t b))
 
 -- v is w but for the words of the node of stage t with the positions from b on, and the words that follow its incoming list at x
 pub record Kept (N t b x : ℕ) (w v : List ℤ) : Type 0 where
@@ -57,8 +68,8 @@ pub record Kept (N t b x : ℕ) (w v : List ℤ) : Type 0 where
   pub beyond : (j : ℕ) → x + (2 ^ t + 2 ^ t) ≤ j → word v j ≡ word w j
 
 -- v is w after a visit of node p at stage t
-pub record Visited (plan mask : List ℕ) (N t p b x : ℕ) (w v : List ℤ) : Type 0 where
-  pub tree : treeAt N v t b ≡ walk plan t p (part mask b t) (treeAt N w t b) (soft w x (2 ^ t))
+pub record Visited (plan mask : List ℕ) (N t p b x : ℕ) (first : Bool) (w v : List ℤ) : Type 0 where
+  pub tree : treeAt N v t b ≡ walk plan t p (part mask b t) (begun first plan t p (part mask b t) (treeAt N w t b)) (soft w x (2 ^ t))
   pub kept : Kept N t b x w v
 
 -- the words after a node of a kind was cut
@@ -68,32 +79,34 @@ cutWords (some k) w m x s = stored w m s (shortcut k s (soft w x s))
 
 -- ---- sweeps
 -- N words a row and t + 3 rows: those of the stages 0 to t, and two for incoming lists, the root's first.
--- The root's incoming list holds LLRs; messages at and above the cuts are within bounds; those below a cut are not mentioned.
-pub record Ready (plan mask : List ℕ) (N t : ℕ) (w : List ℤ) : Type 0 where
+-- The root's incoming list holds LLRs; messages at and above the cuts are within bounds; those below a cut, and in the first sweep
+-- all that are stored, are not mentioned.
+pub record Ready (plan mask : List ℕ) (N t : ℕ) (first : Bool) (w : List ℤ) : Type 0 where
   pub size : N ≡ 2 ^ t
   pub low : t ≤ 10
   pub room : N * (t + 3) ≤ length w
   pub positions : length mask ≡ N
   pub allowed : Allowed t plan mask
   pub small : SmallAll t 32767 (soft w (N * (t + 1)) (2 ^ t))
-  pub held : Held plan t 1 32767 (treeAt N w t 0)
+  pub held : Held plan t 1 32767 (begun first plan t 1 mask (treeAt N w t 0))
 
--- v is w after k sweeps along the plan: the messages of the nodes at and above the cuts are the walk's; stored messages of nodes below a cut
+-- v is w after k sweeps along the plan, with the first one among them or not: the messages of the nodes at and above the cuts are the walk's; stored messages of nodes below a cut
 -- are as they were, whatever they held; the root's incoming list and what lies past the workspace are too
-pub record Swept (plan mask : List ℕ) (N t k : ℕ) (w v : List ℤ) : Type 0 where
-  pub tree : treeAt N v t 0 ≡ sweeps (λ T. walk plan t 1 mask T (soft w (N * (t + 1)) N)) k (treeAt N w t 0)
+pub record Swept (plan mask : List ℕ) (N t : ℕ) (first : Bool) (k : ℕ) (w v : List ℤ) : Type 0 where
+  pub tree : treeAt N v t 0 ≡ sweeps (λ T. walk plan t 1 mask T (soft w (N * (t + 1)) N)) k (begun first plan t 1 mask (treeAt N w t 0))
   pub below : Stays plan t 1 (treeAt N w t 0) (treeAt N v t 0)
   pub list : (i : ℕ) → i < N → word v (N * (t + 1) + i) ≡ word w (N * (t + 1) + i)
   pub past : (j : ℕ) → N * (t + 3) ≤ j → word v j ≡ word w j
   pub long : length v ≡ length w
 
 -- ---- a decode's soft values: what the accepted inputs are
-pub record Decodable (plan mask : List ℕ) (llrs : List ℤ) (N t out words : ℕ) : Type 0 where
+pub record Decodable (plan mask : List ℕ) (llrs : List ℤ) (count N t out words : ℕ) : Type 0 where
   pub size : N ≡ 2 ^ t
   pub low : t ≤ 10
   pub positions : length mask ≡ N
   pub values : length llrs ≡ N
   pub small : (k : ℕ) → k < N → natAbs (word llrs k) ≤ 32767
   pub allowed : Allowed t plan mask
+  pub some-sweep : 0 < count
   pub answer : N ≤ out
   pub room : N * (t + 3) ≤ words

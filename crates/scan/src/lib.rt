@@ -1,4 +1,5 @@
 // The planned walk over one lent workspace.
+use halves::box_at;
 use halves::box_plus;
 use halves::message_by_list;
 use halves::message_left_certain;
@@ -18,7 +19,6 @@ use messages::type_one_message;
 use messages::type_three_message;
 use words::copy_words;
 use words::fill;
-use words::leaf_words;
 use words::load_llrs;
 ghost use mathlib.Core.Path.{_≡_};
 ghost use Prim.Native.Nat.{_+_, _*_, _≤_, _<_};
@@ -27,8 +27,8 @@ ghost use lib.IntN.{pos};
 ghost use mathlib.Core.List.{map};
 ghost use Rattle.model.specs.Soft.{finite, mark};
 ghost use Rattle.model.specs.Scan.{scan};
-ghost use Rattle.words.specs.Words.{Incoming, stored, write, Holds, boxPlus, plusBox, Words, Sums, BoxSums, FiniteBoxSums};
-ghost use Rattle.model.specs.Kinds.{kindOf, isSome};
+ghost use Rattle.words.specs.Words.{Incoming, soft, stored, write, Holds, boxAt, boxPlus, plusBox, Words, Sums, BoxSums, FiniteBoxSums};
+ghost use Rattle.model.specs.Kinds.{kindOf, isSome, shortcut, rate-0, rate-1};
 ghost use Rattle.model.specs.Plans.{isCut, isRate01};
 ghost use lib.Dec.{T};
 ghost use mathlib.Core.Bool.{true, false, cond, _||_};
@@ -86,32 +86,44 @@ fn is_fixed(m: Fixed) -> bool
     if m.certain { true } else { m.zero }
 }
 
-// The incoming list of the left child, at c: the node's is at x, the right child's message at r. Not stored where the child's message is fixed.
-fn left_list(w: &mut [i32], left: Fixed, c: usize, x: usize, r: usize, h: usize)
-    requires { ⌜ (r + h ≤ x) × (x + (h + h) ≤ c) × (c + h ≤ length (now w)) ⌝ }
-    requires { ⌜ Words (now w) x h × Sums (now w) (x + h) r h ⌝ }
-    ensures { λ _. ⌜ now (w .exit) ≡ cond (left .certain || left .zero) (now (w .entry)) (write (now (w .entry)) c h (boxPlus (now (w .entry)) x (x + h) r)) ⌝ }
+// The message of a child whose message is fixed, at m: certain or 0 everywhere.
+fn fixed_child(w: &mut [i32], child: Fixed, m: usize, x: usize, s: usize)
+    requires { ⌜ (m + s ≤ x) × (x + s ≤ length (now w)) ⌝ }
+    ensures { λ _. ⌜ now (w .exit) ≡ stored (now (w .entry)) m s (shortcut (cond (child .certain) rate-0 rate-1) s (soft (now (w .entry)) x s)) ⌝ }
 {
-    if !is_fixed(left) {
-        let y = x + h;
+    if child.certain {
+        rate_zero_message(w, m, x, s);
+    } else {
+        rate_one_message(w, m, x, s);
+    }
+}
+
+// The incoming list of the left child, at c: the node's is at x, the right child's message at r. In the first sweep that message is 0, whatever is stored.
+fn left_list(w: &mut [i32], first: bool, c: usize, x: usize, r: usize, h: usize)
+    requires { ⌜ (r + h ≤ x) × (x + (h + h) ≤ c) × (c + h ≤ length (now w)) ⌝ }
+    requires { ⌜ Words (now w) x h × Words (now w) (x + h) h × (first ≡ false → Sums (now w) (x + h) r h) ⌝ }
+    ensures { λ _. ⌜ now (w .exit) ≡ write (now (w .entry)) c h (cond first (boxAt (now (w .entry)) x (x + h)) (boxPlus (now (w .entry)) x (x + h) r)) ⌝ }
+{
+    let y = x + h;
+    if first {
+        box_at(w, c, x, y, h);
+    } else {
         box_plus(w, c, x, y, r, h);
     }
 }
 
-// The incoming list of the right child, at c: the node's is at x, the left child's message at l. Not stored where the child's message is fixed.
-fn right_list(w: &mut [i32], left: Fixed, right: Fixed, c: usize, x: usize, l: usize, h: usize)
+// The incoming list of the right child, at c: the node's is at x, the left child's message at l.
+fn right_list(w: &mut [i32], left: Fixed, c: usize, x: usize, l: usize, h: usize)
     requires { ⌜ (l + h ≤ x) × (x + (h + h) ≤ c) × (c + h ≤ length (now w)) ⌝ }
     requires { ⌜ Words (now w) x h × Words (now w) l h × FiniteBoxSums (now w) x l (x + h) h ⌝ }
     requires { ⌜ (left .certain ≡ true → Holds (now w) l h (λ k. pos mark)) ⌝ }
-    ensures { λ _. ⌜ now (w .exit) ≡ cond (right .certain || right .zero) (now (w .entry)) (write (now (w .entry)) c h (plusBox (now (w .entry)) x l (x + h))) ⌝ }
+    ensures { λ _. ⌜ now (w .exit) ≡ write (now (w .entry)) c h (plusBox (now (w .entry)) x l (x + h)) ⌝ }
 {
-    if !is_fixed(right) {
-        let y = x + h;
-        if left.certain {
-            plus_at(w, c, x, y, h);
-        } else {
-            plus_box(w, c, x, l, y, h);
-        }
+    let y = x + h;
+    if left.certain {
+        plus_at(w, c, x, y, h);
+    } else {
+        plus_box(w, c, x, l, y, h);
     }
 }
 
@@ -145,7 +157,7 @@ fn own_message(
     }
 }
 
-// Visits node p of stage t, of s positions from b on, whose incoming list is at x.
+// Visits node p of stage t, of s positions from b on, whose incoming list is at x. In the first sweep no stored message is read before it is written.
 fn visit(
     work: &mut [i32],
     plan: &[u8],
@@ -156,9 +168,10 @@ fn visit(
     p: usize,
     b: usize,
     x: usize,
+    first: bool,
 )
-    requires { ⌜ Room (now plan) (now mask) n t s p b x (now work) ⌝ }
-    ensures { λ _. ⌜ Visited (now (plan .entry)) (now (mask .entry)) n t p b x (now (work .entry)) (now (work .exit)) ⌝ }
+    requires { ⌜ Room (now plan) (now mask) n t s p b x first (now work) ⌝ }
+    ensures { λ _. ⌜ Visited (now (plan .entry)) (now (mask .entry)) n t p b x first (now (work .entry)) (now (work .exit)) ⌝ }
 {
     let m = t * n + b;
     if plan[p] == 1 {
@@ -175,31 +188,42 @@ fn visit(
     let q = 2 * p;
     let d = b + h;
     let left = fixed_message(plan, mask, q, b, h);
-    left_list(work, left, c, x, r, h);
-    visit(work, plan, mask, n, u, h, q, b, c);
+    if is_fixed(left) {
+        fixed_child(work, left, l, c, h);
+    } else {
+        left_list(work, first, c, x, r, h);
+        visit(work, plan, mask, n, u, h, q, b, c, first);
+    }
     let right = fixed_message(plan, mask, q + 1, d, h);
-    right_list(work, left, right, c, x, l, h);
-    visit(work, plan, mask, n, u, h, q + 1, d, c);
+    if is_fixed(right) {
+        fixed_child(work, right, r, c, h);
+    } else {
+        right_list(work, left, c, x, l, h);
+        visit(work, plan, mask, n, u, h, q + 1, d, c, first);
+    }
     own_message(work, left, right, m, x, l, c, h);
 }
 
-// One sweep along the plan: a visit of the root with the incoming list that stands past the rows of messages.
-pub fn sweep(work: &mut [i32], plan: &[u8], mask: &[u8], n: usize, t: usize)
-    requires { ⌜ Ready (now plan) (now mask) n t (now work) ⌝ }
-    ensures { λ _. ⌜ Swept (now (plan .entry)) (now (mask .entry)) n t 1 (now (work .entry)) (now (work .exit)) ⌝ }
+// One sweep along the plan: a visit of the root with the incoming list that stands past the rows of messages. The first sweep takes the messages
+// before it as they are by definition, whatever is stored.
+pub fn sweep(work: &mut [i32], plan: &[u8], mask: &[u8], n: usize, t: usize, first: bool)
+    requires { ⌜ Ready (now plan) (now mask) n t first (now work) ⌝ }
+    ensures { λ _. ⌜ Swept (now (plan .entry)) (now (mask .entry)) n t first 1 (now (work .entry)) (now (work .exit)) ⌝ }
 {
     let x = n * (t + 1);
-    visit(work, plan, mask, n, t, n, 1, 0, x);
+    visit(work, plan, mask, n, t, n, 1, 0, x, first);
 }
 
 // As many sweeps as `count` says, with the same plan.
 pub fn sweeps(work: &mut [i32], plan: &[u8], mask: &[u8], n: usize, t: usize, count: usize)
-    requires { ⌜ Ready (now plan) (now mask) n t (now work) ⌝ }
-    ensures { λ _. ⌜ Swept (now (plan .entry)) (now (mask .entry)) n t count (now (work .entry)) (now (work .exit)) ⌝ }
+    requires { ⌜ Ready (now plan) (now mask) n t true (now work) ⌝ }
+    requires { ⌜ 0 < count ⌝ }
+    ensures { λ _. ⌜ Swept (now (plan .entry)) (now (mask .entry)) n t true count (now (work .entry)) (now (work .exit)) ⌝ }
 {
     let mut k = 0;
     while k < count {
-        sweep(work, plan, mask, n, t);
+        let first = k == 0;
+        sweep(work, plan, mask, n, t, first);
         k += 1;
     }
 }
@@ -215,12 +239,10 @@ pub fn soft_values(
     out: &mut [i32],
     work: &mut [i32],
 )
-    requires { ⌜ Decodable (now plan) (now mask) (now llrs) n t (length (now out)) (length (now work)) ⌝ }
+    requires { ⌜ Decodable (now plan) (now mask) (now llrs) count n t (length (now out)) (length (now work)) ⌝ }
     ensures { λ _. ⌜ now (out .exit) ≡ stored (now (out .entry)) 0 n (scan t (now (mask .entry)) (map finite (now (llrs .entry))) count) ⌝ }
     ensures { λ _. ⌜ now (work .exit) ≡ write (now (work .entry)) 0 (n * (t + 3)) (λ k. pos 0) ⌝ }
 {
-    leaf_words(work, 0, mask);
-    fill(work, n, t * n, 0);
     load_llrs(work, n * (t + 1), llrs);
     sweeps(work, plan, mask, n, t, count);
     copy_words(&work[..], t * n, out, 0, n);

@@ -4,9 +4,7 @@ ghost use mathlib.Core.Bool.{cond};
 ghost use Prim.Native.Nat.{_+_, _<_, _≤_};
 ghost use lib.IntN.{_-ℤ_};
 ghost use lib.Signed.{ltZ};
-ghost use lib.ListN.{length, getD};
-ghost use Rattle.model.specs.Soft.{wordOf};
-ghost use Rattle.model.specs.Scan.{leafValue};
+ghost use lib.ListN.{length};
 ghost use Rattle.words.specs.Words.{boxWord, addWord, Word, Added, word, write, Finite};
 
 fn min_word(a: i32, b: i32) -> i32
@@ -82,25 +80,6 @@ pub fn load_llrs(w: &mut [i32], m: usize, llrs: &[i16])
     while k < llrs.len() {
         let v = llrs[k] as i32;
         w[m + k] = v;
-        k += 1;
-    }
-}
-
-// The message of a leaf, by its byte of the mask.
-fn leaf_word(b: u8) -> i32
-    ensures { λ r. ⌜ r ≡ wordOf (leafValue b) ⌝ }
-{
-    if b == 0 { 0 } else { 2147483647 }
-}
-
-// w[m + k] = the message of leaf k
-pub fn leaf_words(w: &mut [i32], m: usize, mask: &[u8])
-    requires { ⌜ m + length (now mask) ≤ length (now w) ⌝ }
-    ensures { λ _. ⌜ now (w .exit) ≡ write (now (w .entry)) m (length (now (mask .entry))) (λ k. wordOf (leafValue (getD (now (mask .entry)) k 0))) ⌝ }
-{
-    let mut k = 0;
-    while k < mask.len() {
-        w[m + k] = leaf_word(mask[k]);
         k += 1;
     }
 }
