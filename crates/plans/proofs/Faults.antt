@@ -1,22 +1,24 @@
 -- The numbers of a plan's test and of its check, case by case. Assumes nothing.
 use Prim.Native.Nat.{ℕ, _*_, _^_, _≤_}
 use native.Mathlib.Omega.{arith}
-use mathlib.Core.Path.{_≡_, refl, sym, _∙_}
+use mathlib.Core.Path.{_≡_, refl, sym, ap₂, _∙_}
 use mathlib.Core.Bool.{Bool, true, false, cond, _&&_}
 use mathlib.Core.List.{List, _∷_}
-use borrow.Author.Tests.{ne-eqb, eqb-true}
-use lib.Dec.{T, eqb}
+use borrow.Author.Tests.{ne-eqb}
+use lib.Dec.{T, eqb, eqb→eq}
 use lib.ListN.{length, getD}
+use lib.Pow.{pow-mono}
 use Rattle.model.specs.Lists.{atMost}
 use Rattle.model.specs.Encoding.{maxMask}
 use Rattle.model.specs.Plans.{isPlan, oneCut, cutsOfKinds, wellCut, Allowed, cycles}
 use Rattle.model.specs.Refusals.{Test, refusal, exponent, row-5, row-6, checkNumber, checkCycles}
-use Rattle.model.proofs.Lists.{T-true, true-T, and-l, and-r}
+use Rattle.model.proofs.Lists.{true-T, and-l, and-r}
 use Rattle.model.proofs.Paths.{wellCut-test}
 use Rattle.model.proofs.Refusals.{exponent-power}
-use Rattle.plans.specs.Nodes.{Span}
+use Rattle.plans.specs.Nodes.{Span, Costs, byteSum}
 use Rattle.plans.specs.Faults.{faultNumber, faultCycles}
 use Rattle.plans.proofs.Parts.{root}
+use Rattle.plans.proofs.Cuts.{met-test, sum-cuts}
 
 module _ (n : ℕ) (mask plan : List ℕ) where
   -- what the code tests is row 5
@@ -40,15 +42,38 @@ module _ (n : ℕ) (mask plan : List ℕ) where
   unfolding faultCycles faultNumber refusal
   fault-0 p w e = (rw (p, cuts-test w), rw (p, cuts-test w) e)
 
-  -- the root of a plan of 2N bytes
-  pub plan-root : length mask ≡ 2 ^ n → n ≤ 10 → isPlan n plan ≡ true → Span n 1 0 (length mask) mask plan
-  unfolding isPlan
-  plan-root s low p =
-      let sizeTest : Bool = eqb (length plan) (2 * 2 ^ n) in
-      let rest : Bool = atMost 1 plan && eqb (getD plan 0 0) 0 in
-      let t : T (sizeTest && rest) = true-T (sizeTest && rest) p in
-      let size : length plan ≡ 2 * 2 ^ n = eqb-true (length plan) (2 * 2 ^ n) (T-true sizeTest (and-l sizeTest rest t)) in
-      record { size = s; low = low; span = omega arith; place = root n (omega arith); bytes = and-l (atMost 1 plan) (eqb (getD plan 0 0) 0) (and-r sizeTest rest t) }
+  -- row 5 was passed: what that says
+  module _ (p : isPlan n plan ≡ true) where
+    passed : T (eqb (length plan) (2 * 2 ^ n) && (atMost 1 plan && eqb (getD plan 0 0) 0))
+    unfolding isPlan
+    passed = true-T (eqb (length plan) (2 * 2 ^ n) && (atMost 1 plan && eqb (getD plan 0 0) 0)) p
+
+    passed-rest : T (atMost 1 plan && eqb (getD plan 0 0) 0)
+    passed-rest = and-r (eqb (length plan) (2 * 2 ^ n)) (atMost 1 plan && eqb (getD plan 0 0) 0) passed
+
+    plan-size : length plan ≡ 2 * 2 ^ n
+    plan-size = eqb→eq (length plan) (2 * 2 ^ n) (and-l (eqb (length plan) (2 * 2 ^ n)) (atMost 1 plan && eqb (getD plan 0 0) 0) passed)
+
+    plan-bytes : T (atMost 1 plan)
+    plan-bytes = and-l (atMost 1 plan) (eqb (getD plan 0 0) 0) passed-rest
+
+    plan-first : getD plan 0 0 ≡ 0
+    plan-first = eqb→eq (getD plan 0 0) 0 (and-r (atMost 1 plan) (eqb (getD plan 0 0) 0) passed-rest)
+
+    -- the root of a plan of 2N bytes
+    pub plan-root : length mask ≡ 2 ^ n → n ≤ 10 → Span n 1 0 (length mask) mask plan
+    plan-root s low = record { size = s; low = low; span = omega arith; place = root n (omega (arith, plan-size)) }
+
+    -- at most 2048 bytes, which can be added up
+    pub plan-small : n ≤ 10 → (length plan ≤ 2048) × T (atMost 1 plan)
+    plan-small low = let q : 2 ^ n ≤ 1024 = pow-mono low in (omega (arith, plan-size), plan-bytes)
+
+    -- what is found at the root and the number of cuts decide row 6
+    pub root-test : {b w : Bool} {m c e k : ℕ} → Costs plan n 1 mask w m c e → k ≡ byteSum plan → b ≡ (w && eqb m k) → wellCut plan n 1 mask ≡ b
+    root-test A s t =
+        met-test plan n 1 mask
+        ∙ ap₂ (λ (x y : Bool). x && y) (sym (A .met)) (ap₂ eqb (sym (A .cuts)) (sym (s ∙ sum-cuts plan plan-bytes n (omega (arith, plan-size)) plan-first)))
+        ∙ sym t
 
   -- number 0 says that the plan is allowed
   pub fault-allowed : 0 ≡ faultNumber n mask plan → Allowed n plan mask

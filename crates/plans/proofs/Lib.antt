@@ -1,5 +1,5 @@
 pub mod Parts
-pub mod Clear
+pub mod Cuts
 pub mod Costs
 pub mod Faults
 pub mod Written

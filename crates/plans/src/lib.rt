@@ -10,75 +10,63 @@ ghost use mathlib.Core.Path.{_≡_};
 ghost use mathlib.Core.Bool.{cond, _&&_};
 ghost use mathlib.Core.List.{_++_};
 ghost use Prim.Native.Nat.{_+_, _*_, _≤_, _<_, _^_};
-ghost use lib.Dec.{eqb};
+ghost use lib.Dec.{T, eqb};
 ghost use lib.ListN.{length, getD, drop, replicate};
 ghost use Rattle.model.specs.Lists.{atMost};
 ghost use Rattle.model.specs.Kinds.{isSome};
 ghost use Rattle.model.specs.Plans.{isRate01, cutCycles};
 ghost use Rattle.model.specs.Refusals.{planNumber, planBytes, planCounts, checkNumber, checkCycles};
 ghost use Rattle.kinds.specs.Runs.{kindNamed};
-ghost use Rattle.plans.specs.Nodes.{Place, Node, Span, part, clearBelow, Costs, rowOf, written, counted, Free};
+ghost use Rattle.plans.specs.Nodes.{Node, Span, part, byteSum, Costs, rowOf, written, counted, Free};
 ghost use Rattle.plans.specs.Faults.{faultNumber, faultCycles};
 
 // The number of kinds.
 const KINDS: usize = 6;
 
-// Whether no node below node p, of stage t, is cut. The nodes of a level below p lie side by side in the plan.
-fn no_cut_below(plan: &[u8], t: usize, p: usize) -> bool
-    requires { ⌜ Place t p (length (now plan)) ⌝ }
-    ensures { λ r. ⌜ r ≡ clearBelow (now (plan .entry)) t p 1 ⌝ }
-{
-    let mut first = p;
-    let mut width: usize = 1;
-    let mut u = t;
-    while 0 < u {
-        first = 2 * first;
-        width = 2 * width;
-        let end = first + width;
-        if !at_most(&plan[first..end], 0) {
-            return false;
-        }
-        u -= 1;
-    }
-    true
-}
-
-// What the check finds at a node: whether each path from it down has exactly one cut, at a node of some kind;
+// What the check finds at a node: whether each path from it down has a cut, the first at a node of some kind; the number of those first cuts;
 // its cycles with those below it; and the cycles that its parent counts for the edge to it.
 struct Cost {
     well: bool,
+    cuts: u32,
     cycles: u32,
     edge: u32,
 }
 
-fn cost_row(well: bool, cycles: u32, edge: u32) -> Cost
-    ensures { λ r. ⌜ (r .well ≡ well) × (r .cycles ≡ cycles) × (r .edge ≡ edge) ⌝ }
+// A cut node counts as one cut.
+fn cut_row(well: bool, cycles: u32, edge: u32) -> Cost
+    ensures { λ r. ⌜ (r .well ≡ well) × (r .cuts ≡ 1) × (r .cycles ≡ cycles) × (r .edge ≡ edge) ⌝ }
 {
-    Cost { well, cycles, edge }
+    Cost {
+        well,
+        cuts: 1,
+        cycles,
+        edge,
+    }
 }
 
 // A cut node of kind k.
 fn cut_cost(k: Kind) -> Cost
-    ensures { λ r. ⌜ (r .well ≡ isSome (kindNamed k)) × (r .cycles ≡ cutCycles (kindNamed k)) × (r .edge ≡ cond (isRate01 (kindNamed k)) 0 2) ⌝ }
+    ensures { λ r. ⌜ (r .well ≡ isSome (kindNamed k)) × (r .cuts ≡ 1) × (r .cycles ≡ cutCycles (kindNamed k)) × (r .edge ≡ cond (isRate01 (kindNamed k)) 0 2) ⌝ }
 {
     match k {
-        Kind::Rate0 => cost_row(true, 0, 0),
-        Kind::Rate1 => cost_row(true, 0, 0),
-        Kind::Rep => cost_row(true, 2, 2),
-        Kind::Spc => cost_row(true, 2, 2),
-        Kind::TypeI => cost_row(true, 2, 2),
-        Kind::TypeIII => cost_row(true, 2, 2),
-        Kind::NoKind => cost_row(false, 0, 2),
+        Kind::Rate0 => cut_row(true, 0, 0),
+        Kind::Rate1 => cut_row(true, 0, 0),
+        Kind::Rep => cut_row(true, 2, 2),
+        Kind::Spc => cut_row(true, 2, 2),
+        Kind::TypeI => cut_row(true, 2, 2),
+        Kind::TypeIII => cut_row(true, 2, 2),
+        Kind::NoKind => cut_row(false, 0, 2),
     }
 }
 
 // An uncut node with the children a and b.
 fn joined(a: Cost, b: Cost) -> Cost
-    requires { ⌜ (a .cycles ≤ 16384) × (a .edge ≤ 2) × (b .cycles ≤ 16384) × (b .edge ≤ 2) ⌝ }
-    ensures { λ r. ⌜ (r .well ≡ (a .well && b .well)) × (r .cycles ≡ 2 + (a .edge + b .edge) + (a .cycles + b .cycles)) × (r .edge ≡ 2) ⌝ }
+    requires { ⌜ (a .cuts ≤ 1024) × (a .cycles ≤ 16384) × (a .edge ≤ 2) × (b .cuts ≤ 1024) × (b .cycles ≤ 16384) × (b .edge ≤ 2) ⌝ }
+    ensures { λ r. ⌜ (r .well ≡ (a .well && b .well)) × (r .cuts ≡ a .cuts + b .cuts) × (r .cycles ≡ 2 + (a .edge + b .edge) + (a .cycles + b .cycles)) × (r .edge ≡ 2) ⌝ }
 {
     Cost {
         well: both(a.well, b.well),
+        cuts: a.cuts + b.cuts,
         cycles: 2 + (a.edge + b.edge) + (a.cycles + b.cycles),
         edge: 2,
     }
@@ -88,21 +76,17 @@ fn joined(a: Cost, b: Cost) -> Cost
 // a part of the mask is made at a cut only, since a part that is handed on in each call costs more than two numbers.
 fn cost_at(mask: &[u8], plan: &[u8], t: usize, p: usize, b: usize, s: usize) -> Cost
     requires { ⌜ Span t p b s (now mask) (now plan) ⌝ }
-    ensures { λ r. ⌜ Costs (now (plan .entry)) t p (part (now (mask .entry)) b s) (r .well) (r .cycles) (r .edge) ⌝ }
+    ensures { λ r. ⌜ Costs (now (plan .entry)) t p (part (now (mask .entry)) b s) (r .well) (r .cuts) (r .cycles) (r .edge) ⌝ }
 {
     let e = b + s;
     if plan[p] == 1 {
-        let c = cut_cost(kind_of(&mask[b..e]));
-        return Cost {
-            well: both(c.well, no_cut_below(plan, t, p)),
-            cycles: c.cycles,
-            edge: c.edge,
-        };
+        return cut_cost(kind_of(&mask[b..e]));
     }
     if t == 0 {
         let c = cut_cost(kind_of(&mask[b..e]));
         return Cost {
             well: false,
+            cuts: 0,
             cycles: c.cycles,
             edge: 2,
         };
@@ -130,6 +114,20 @@ fn is_plan(plan: &[u8], size: usize) -> bool
     }
 }
 
+// The number of cut nodes of a plan: its bytes added up. They are summed in 16 bits, which compiles to eight sums at a time.
+fn cuts_in(plan: &[u8]) -> u32
+    requires { ⌜ (length (now plan) ≤ 2048) × T (atMost 1 (now plan)) ⌝ }
+    ensures { λ r. ⌜ r ≡ byteSum (now (plan .entry)) ⌝ }
+{
+    let mut cuts: u16 = 0;
+    let mut p = 0;
+    while p < plan.len() {
+        cuts += plan[p] as u16;
+        p += 1;
+    }
+    cuts as u32
+}
+
 // What a check of a plan answers: the number, and the cycles of one sweep if it is 0.
 pub struct Checked {
     pub number: u32,
@@ -137,6 +135,7 @@ pub struct Checked {
 }
 
 // Tests 5 and 6 of a plan, for a mask of 2 ^ t bytes. The decoder shares them.
+// Where a path has a second cut, the plan has more cuts than the pass from the root down counts.
 pub fn fault_of(mask: &[u8], plan: &[u8], t: usize) -> Checked
     requires { ⌜ (length (now mask) ≡ 2 ^ t) × (t ≤ 10) ⌝ }
     ensures { λ r. ⌜ (r .number ≡ faultNumber t (now (mask .entry)) (now (plan .entry))) × (r .cycles ≡ faultCycles t (now (mask .entry)) (now (plan .entry))) ⌝ }
@@ -148,7 +147,8 @@ pub fn fault_of(mask: &[u8], plan: &[u8], t: usize) -> Checked
         };
     }
     let c = cost_at(mask, plan, t, 1, 0, mask.len());
-    if c.well {
+    let cuts = cuts_in(plan);
+    if both(c.well, c.cuts == cuts) {
         Checked {
             number: 0,
             cycles: c.cycles,

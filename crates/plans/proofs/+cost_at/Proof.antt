@@ -13,10 +13,8 @@ use Rattle.plans.proofs.cost_at.Reads as cost-at
 use Rattle.plans.proofs.cost_at.Kinds as cost-at-kinds
 use Rattle.plans.proofs.+cost_at.Lts-cost_at as cost-at-lts
 use Rattle.kinds.proofs.kind_of.Reads as kind-of-reads
-use Rattle.inputs.proofs.both.Reads as both-reads
 use Rattle.plans.proofs.cut_cost.Reads as cut-cost-reads
 use Rattle.plans.proofs.joined.Reads as joined-reads
-use Rattle.plans.proofs.no_cut_below.Reads as no-cut-below-reads
 use Rattle.plans.proofs.+cost_at.{statement}
 use Rattle.plans.proofs.+cost_at.Tie.{close}
 
@@ -31,7 +29,7 @@ cost-at-below t = and 2 cost-at-kinds.ps (falls 2 cost-at-kinds.ps _<_ μ-cost-a
 
 -- what the callees ask and ensure
 abbrev around : ℕ → cost-at-lts.Claims
-around t = (kind-of-reads.Asked, kind-of-reads.Learnt, cut-cost-reads.Asked, cut-cost-reads.Learnt, no-cut-below-reads.Asked, no-cut-below-reads.Learnt, both-reads.Asked, both-reads.Learnt, cost-at-below t, cost-at.Post, joined-reads.Asked, joined-reads.Learnt)
+around t = (kind-of-reads.Asked, kind-of-reads.Learnt, cut-cost-reads.Asked, cut-cost-reads.Learnt, cost-at-below t, cost-at.Post, joined-reads.Asked, joined-reads.Learnt)
 
 module _ (t : ℕ) where
   add-e : cost-at-lts.Need-add-e (around t) (cost-at-at t) cost-at.Post
@@ -55,20 +53,14 @@ module _ (t : ℕ) where
   cut-cost-requires : cost-at-lts.Need-cut-cost-requires (around t) (cost-at-at t) cost-at.Post
   cut-cost-requires c κs = tt
 
-  no-cut-below-requires : cost-at-lts.Need-no-cut-below-requires (around t) (cost-at-at t) cost-at.Post
-  no-cut-below-requires c κs = c .before .before .before .before .before .before .before .pre .1 .place
-
-  both-requires : cost-at-lts.Need-both-requires (around t) (cost-at-at t) cost-at.Post
-  both-requires c κs = tt
-
   returns : cost-at-lts.Need-returns (around t) (cost-at-at t) cost-at.Post
   returns c =
-      let k = c .before .before in
-      let cut = k .before .before .before in
+      let cut = c .before .before .before in
       let s = cut .before .before .before .before in
-      let kind = k .before .kind-of .ensures in
-      costs-cut (s .args .mask .now) (s .args .plan .now) (s .pre .1) (cut .if1 .taken) (c .both .ensures) (k .cut-cost .ensures .0 ∙ ap isSome kind)
-      (c .before .no-cut-below .ensures) (k .cut-cost .ensures .1 ∙ ap cutCycles kind) (k .cut-cost .ensures .2 ∙ ap (λ o. cond (isRate01 o) 0 2) kind)
+      let kind = c .before .kind-of .ensures in
+      let row = c .cut-cost .ensures in
+      costs-cut (s .args .mask .now) (s .args .plan .now) (s .pre .1) (cut .if1 .taken) (row .0 ∙ ap isSome kind) (row .1)
+      (row .2 ∙ ap cutCycles kind) (row .3 ∙ ap (λ o. cond (isRate01 o) 0 2) kind)
 
   sub-kind-of-2 : cost-at-lts.Need-sub-kind-of-2 (around t) (cost-at-at t) cost-at.Post
   sub-kind-of-2 c = omega arith
@@ -90,7 +82,7 @@ module _ (t : ℕ) where
       let leaf = c .before .before .before in
       let s = leaf .before .before .before .before .before in
       costs-leaf (s .args .mask .now) (s .args .plan .now) (s .pre .1) (leaf .before .if1 .left) (leaf .if2 .taken)
-      (c .cut-cost2 .ensures .1 ∙ ap cutCycles (c .before .kind-of2 .ensures))
+      (c .cut-cost2 .ensures .2 ∙ ap cutCycles (c .before .kind-of2 .ensures))
 
   sub-u : cost-at-lts.Need-sub-u (around t) (cost-at-at t) cost-at.Post
   sub-u c = omega arith
@@ -120,14 +112,14 @@ module _ (t : ℕ) where
       let low = c .before .before .before .before .before .before .before .pre .1 .low in
       let a = costs-small (c .before .cost-at .ensures) (omega arith) in
       let b = costs-small (c .cost-at2 .ensures) (omega arith) in
-      (a .0, a .1, b .0, b .1)
+      (a .0, a .1, a .2, b .0, b .1, b .2)
 
   returns-3 : cost-at-lts.Need-returns-3 (around t) (cost-at-at t) cost-at.Post
   returns-3 c =
       let d = c .before .before .before in
       let s = d .before .before .before .before .before in
       costs-down (s .args .mask .now) (s .args .plan .now) (s .pre .1) (d .if2 .left) (d .before .if1 .left)
-      (c .before .before .cost-at .ensures) (c .before .cost-at2 .ensures) (c .joined .ensures .0) (c .joined .ensures .1) (c .joined .ensures .2)
+      (c .before .before .cost-at .ensures) (c .before .cost-at2 .ensures) (c .joined .ensures .0) (c .joined .ensures .1) (c .joined .ensures .2) (c .joined .ensures .3)
 
 pub +cost-at-spec : {M : Type 1} → statement M
 +cost-at-spec = close μ-cost-at λ t. cost-at-lts.spec (around t) (cost-at-at t) cost-at.Post
@@ -138,8 +130,6 @@ pub +cost-at-spec : {M : Type 1} → statement M
     (part-kind-of-end t)
     (kind-of-requires t)
     (cut-cost-requires t)
-    (no-cut-below-requires t)
-    (both-requires t)
     (returns t)
     (sub-kind-of-2 t)
     (part-kind-of-start-2 t)
