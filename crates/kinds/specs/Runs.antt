@@ -1,13 +1,12 @@
--- How the code finds a kind: by the size of a node and the length of its run of frozen positions. Assumes nothing.
-use Prim.Native.Nat.{ℕ, _+_, _-_, _≤_}
+-- How the code finds a kind: by the bytes at both ends of a mask and the length of its run of frozen positions. Assumes nothing.
+use Prim.Native.Nat.{ℕ, _-_, _≤_}
 use mathlib.Core.Path.{_≡_}
-use mathlib.Core.Logic.{_⊎_}
 use mathlib.Core.Bool.{Bool, true, _&&_}
 use mathlib.Core.Option.{Option, none, some}
 use mathlib.Core.List.{List, [], _∷_}
-use lib.Dec.{eqb, leb}
+use lib.Dec.{T, eqb}
 use lib.ListN.{length}
-use Rattle.model.specs.Kinds.{Kind, rate-0, rate-1, REP, SPC, type-I, type-III, order, leastSize, onlyFirst, firstOf}
+use Rattle.model.specs.Kinds.{Kind, rate-0, rate-1, REP, SPC, type-I, type-III, leastSize, kindOf, isSome}
 use Rattle.kinds.specs.declared.Kind as code
 use Rattle.kinds.specs.declared.Kind.the-variants.{Rate0, Rate1, Rep, Spc, TypeI, TypeIII, NoKind}
 
@@ -35,14 +34,10 @@ front SPC m = 1
 front type-I m = m - 2
 front type-III m = 2
 
-abbrev pub fitsRun : ℕ → ℕ → Kind → Bool
-fitsRun m f k = leb (leastSize k) m && eqb f (front k m)
-
--- the kind of a node of size m with the first f positions frozen and the others unfrozen
-unfoldable pub kindAt : ℕ → ℕ → Option Kind
-kindAt m f = firstOf (fitsRun m f) order
-
--- what the bytes at both ends of a mask tell of its run: r is its length if it ends at most two positions from an end
-pub record Ends (mask : List ℕ) (r : ℕ) : Type 0 where
-  pub inside : r ≤ length mask
-  pub run : (f : ℕ) → f ≤ length mask → (f ≤ 2) ⊎ (length mask ≤ f + 2) → mask ≡ onlyFirst f (length mask) → r ≡ f
+-- what the bytes at both ends of a mask tell: if it is of a kind at all, then of this one, with the first f positions frozen
+pub record Ends (mask : List ℕ) (o : Option Kind) (f : ℕ) : Type 0 where
+  pub kind : Kind
+  pub named : o ≡ some kind
+  pub run : f ≡ front kind (length mask)
+  pub room : leastSize kind ≤ length mask
+  pub only : T (isSome (kindOf (length mask) mask)) → o ≡ kindOf (length mask) mask

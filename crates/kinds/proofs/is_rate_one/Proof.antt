@@ -4,7 +4,7 @@ use Rattle.kinds.proofs.is_rate_one.Statement.{statement}
 use Rattle.kinds.proofs.is_rate_one.Tie as tie
 
 shared-slice-read-result : tie.Need-shared-slice-read-result
-shared-slice-read-result c = let s = c .before in told (s .args .mask .now) (s .pre) .some
+shared-slice-read-result c = let s = c .before in told (s .args .mask .now) (s .pre) .nonempty
 
 returns : tie.Need-returns
 returns c = let s = c .before in told (s .args .mask .now) (s .pre) .one

@@ -5,10 +5,10 @@ use Rattle.kinds.proofs.is_rate_zero.Statement.{statement}
 use Rattle.kinds.proofs.is_rate_zero.Tie as tie
 
 sub-result : tie.Need-sub-result
-sub-result c = omega (arith, told (c .args .mask .now) (c .pre) .some)
+sub-result c = omega (arith, told (c .args .mask .now) (c .pre) .nonempty)
 
 shared-slice-read-result : tie.Need-shared-slice-read-result
-shared-slice-read-result c = let s = c .before in omega (arith, told (s .args .mask .now) (s .pre) .some)
+shared-slice-read-result c = let s = c .before in omega (arith, told (s .args .mask .now) (s .pre) .nonempty)
 
 returns : tie.Need-returns
 returns c = let s = c .before in told (s .args .mask .now) (s .pre) .zero

@@ -1,0 +1,119 @@
+-- `kinds::candidate_at_ends` meets its contract: its tests are those that tell a mask of some kind by its ends. Assumes nothing.
+use Prim.Native.Nat.{_-_, _<_}
+use native.Mathlib.Omega.{arith}
+use lib.ListN.{length}
+use Rattle.model.specs.Kinds.{rate-0, rate-1, REP, SPC, type-I, type-III}
+use Rattle.kinds.proofs.Runs.{by-ends, unfrozen, apart}
+use Rattle.kinds.proofs.candidate_at_ends.Statement.{statement}
+use Rattle.kinds.proofs.candidate_at_ends.Tie as tie
+
+sub-if1 : tie.Need-sub-if1
+sub-if1 c = omega arith
+
+shared-slice-read-if1 : tie.Need-shared-slice-read-if1
+shared-slice-read-if1 c = omega arith
+
+returns : tie.Need-returns
+returns c = by-ends (c .before .before .args .mask .now) rate-0 (omega arith) (rw (c .if1 .taken))
+
+shared-slice-read-if2 : tie.Need-shared-slice-read-if2
+shared-slice-read-if2 c = omega arith
+
+returns-2 : tie.Need-returns-2
+returns-2 c =
+    let mask = c .before .before .before .before .args .mask .now in
+    by-ends mask rate-1 (omega arith) (rw (unfrozen mask (length mask - 1) (c .before .before .if1 .left), unfrozen mask 0 (c .if2 .taken)))
+
+-- the node has more than one position, as the first is frozen and the last is not
+two : (c : tie.Else2) → 1 < length (c .before .before .before .before .args .mask .now)
+two c =
+    let mask = c .before .before .before .before .args .mask .now in
+    omega (arith, apart mask 0 (length mask - 1) (c .if2 .left) (c .before .before .if1 .left))
+
+sub-if3 : tie.Need-sub-if3
+sub-if3 c = two c
+
+shared-slice-read-if3 : tie.Need-shared-slice-read-if3
+shared-slice-read-if3 c = omega (arith, two (c .before))
+
+sub-t12 : tie.Need-sub-t12
+sub-t12 c = omega (arith, two (c .before .before))
+
+returns-3 : tie.Need-returns-3
+returns-3 c =
+    let d = c .before .before in
+    let mask = d .before .before .before .before .args .mask .now in
+    by-ends mask REP (two d) (rw (unfrozen mask (length mask - 1) (d .before .before .if1 .left), d .if2 .left, c .if3 .taken))
+
+-- and more than two, as the last but one is not frozen
+three : (c : tie.Else3) → 2 < length (c .before .before .before .before .before .before .args .mask .now)
+three c =
+    let d = c .before .before in
+    let mask = d .before .before .before .before .args .mask .now in
+    omega (arith, two d, apart mask 0 (length mask - 2) (d .if2 .left) (c .if3 .left))
+
+shared-slice-read-if4 : tie.Need-shared-slice-read-if4
+shared-slice-read-if4 c = omega (arith, three (c .before))
+
+returns-4 : tie.Need-returns-4
+returns-4 c =
+    let e = c .before .before in
+    let d = e .before .before in
+    let mask = d .before .before .before .before .args .mask .now in
+    by-ends mask SPC (two d)
+    (rw (unfrozen mask (length mask - 1) (d .before .before .if1 .left), d .if2 .left, unfrozen mask (length mask - 2) (e .if3 .left), unfrozen mask 1 (c .if4 .taken)))
+
+-- and more than three, as the second is frozen
+four : (c : tie.Else4) → 3 < length (c .before .before .before .before .before .before .before .before .args .mask .now)
+four c =
+    let e = c .before .before in
+    let mask = e .before .before .before .before .before .before .args .mask .now in
+    omega (arith, three e, apart mask 1 (length mask - 2) (c .if4 .left) (e .if3 .left))
+
+sub-if5 : tie.Need-sub-if5
+sub-if5 c = omega (arith, four c)
+
+shared-slice-read-if5 : tie.Need-shared-slice-read-if5
+shared-slice-read-if5 c = omega (arith, four (c .before))
+
+sub-t18 : tie.Need-sub-t18
+sub-t18 c = omega (arith, four (c .before .before))
+
+returns-5 : tie.Need-returns-5
+returns-5 c =
+    let g = c .before .before in
+    let e = g .before .before in
+    let d = e .before .before in
+    let mask = d .before .before .before .before .args .mask .now in
+    by-ends mask type-I (four g)
+    (rw (unfrozen mask (length mask - 1) (d .before .before .if1 .left), d .if2 .left, unfrozen mask (length mask - 2) (e .if3 .left), g .if4 .left, c .if5 .taken))
+
+returns-6 : tie.Need-returns-6
+returns-6 c =
+    let g = c .before .before in
+    let e = g .before .before in
+    let d = e .before .before in
+    let mask = d .before .before .before .before .args .mask .now in
+    by-ends mask type-III (four g)
+    (rw (unfrozen mask (length mask - 1) (d .before .before .if1 .left), d .if2 .left, unfrozen mask (length mask - 2) (e .if3 .left), g .if4 .left, unfrozen mask (length mask - 3) (c .if5 .left)))
+
+pub candidate-at-ends-spec : {M : Type 1} → statement M
+candidate-at-ends-spec =
+    tie.close
+    (tie.spec
+    sub-if1
+    shared-slice-read-if1
+    returns
+    shared-slice-read-if2
+    returns-2
+    sub-if3
+    shared-slice-read-if3
+    sub-t12
+    returns-3
+    shared-slice-read-if4
+    returns-4
+    sub-if5
+    shared-slice-read-if5
+    sub-t18
+    returns-5
+    returns-6)
