@@ -1,5 +1,5 @@
 -- Laws of `write` and `tab`. Assumes nothing.
-use mathlib.Core.Path.{_≡_, refl, sym, ap, _∙_}
+use mathlib.Core.Path.{_≡_, refl, sym, ap, ap₂, _∙_}
 use mathlib.Core.Logic.{_⊎_, ⊎-elim, inl, inr}
 use mathlib.Core.List.{List, [], _∷_, _++_}
 use Prim.Native.Nat.{ℕ, zero, suc, _+_, _-_, _≤_, _<_}
@@ -10,7 +10,8 @@ use native.Mathlib.Numerals.{add-one}
 use lib.ListN.{length, getD, set, take, drop, length-set, length-drop}
 use lib.Seq.{getD-set-same, getD-set-other, ext-getD, set-comm, length-take-le, getD-take, getD-drop, set-append-left}
 use borrow.Rule.Slice.PartMut.{midOf, postOf, putMid, put-same}
-use Rattle.words.specs.Words.{write, Apart}
+use lib.IntN.{ℤ}
+use Rattle.words.specs.Words.{write, four, Apart}
 
 pub lt-or-ge : (j a : ℕ) → (j < a) ⊎ (a ≤ j)
 lt-or-ge j a = pick (decLt j a)
@@ -69,6 +70,19 @@ module _ {A : Type 0} (z : A) where
   unfolding write
   store-none w d f = refl
 
+  -- more words behind the stored ones
+  write-more : (w : List A) (d k n : ℕ) (f : ℕ → A) → write (write w d k f) (d + k) n (λ j. f (k + j)) ≡ write w d (k + n) f
+  unfolding write
+  write-more w d k zero f = ap (λ (i : ℕ). write w d i f) (let e : k ≡ k + 0 = omega arith in e)
+  write-more w d k (suc n) f =
+      ap₂ (λ (l : List A) (i : ℕ). set l i (f (k + n))) (write-more w d k n f) (let e : d + k + n ≡ d + (k + n) = omega arith in e)
+      ∙ ap (λ (i : ℕ). write w d i f) (let e : suc (k + n) ≡ k + suc n = omega arith in e)
+
+  -- n words more at once: those of g are the next ones of f
+  pub store-next : (w₀ w : List A) (d k n : ℕ) (f g : ℕ → A) → w ≡ write w₀ d k f → ((j : ℕ) → j < n → g j ≡ f (k + j)) → write w (d + k) n g ≡ write w₀ d (k + n) f
+  store-next w₀ w d k n f g e q =
+      write-ext w (d + k) n g (λ j. f (k + j)) q ∙ ap (λ (l : List A). write l (d + k) n (λ j. f (k + j))) e ∙ write-more w₀ d k n f
+
   -- word k of a source, while the first k words from d are stored
   pub source : (w₀ w : List A) (d k h : ℕ) (f : ℕ → A) (b : ℕ) → w ≡ write w₀ d k f → Apart h d b → k < h → getD w (b + k) z ≡ getD w₀ (b + k) z
   source w₀ w d k h f b e ap′ lt = ap (λ (l : List A). getD l (b + k) z) e ∙ write-apart w₀ d k h f b k ap′ (omega arith) lt
@@ -124,6 +138,21 @@ module _ {A : Type 0} (z : A) where
       (ap (λ (l : List A). set l (m + k) x) e ∙ set-write (write w₀ m k f) (m + h) k g (m + k) x (inl (omega arith))
       ∙ ap (λ (l : List A). write l (m + h) k g) (store-more w₀ (write w₀ m k f) m k x f refl p)) q
 
+  -- n words more of each at once
+  write-swap : (u : List A) (a k : ℕ) (g : ℕ → A) (b n : ℕ) (f : ℕ → A) → b + n ≤ a → write (write u a k g) b n f ≡ write (write u b n f) a k g
+  unfolding write
+  write-swap u a k g b zero f le = refl
+  write-swap u a k g b (suc n) f le =
+      ap (λ (l : List A). set l (b + n) (f n)) (write-swap u a k g b n f (omega arith)) ∙ set-write (write u b n f) a k g (b + n) (f n) (inl (omega arith))
+
+  pub store-both-next : (w₀ w : List A) (m h k n : ℕ) (f g f′ g′ : ℕ → A) → k + n ≤ h → w ≡ write (write w₀ m k f) (m + h) k g
+      → ((j : ℕ) → j < n → f′ j ≡ f (k + j)) → ((j : ℕ) → j < n → g′ j ≡ g (k + j))
+      → write (write w (m + k) n f′) (m + h + k) n g′ ≡ write (write w₀ m (k + n) f) (m + h) (k + n) g
+  store-both-next w₀ w m h k n f g f′ g′ le e p q =
+      store-next (write w₀ m (k + n) f) (write w (m + k) n f′) (m + h) k n g g′
+      (ap (λ (l : List A). write l (m + k) n f′) e ∙ write-swap (write w₀ m k f) (m + h) k g (m + k) n f′ (omega arith)
+      ∙ ap (λ (l : List A). write l (m + h) k g) (store-next w₀ (write w₀ m k f) m k n f f′ refl p)) q
+
   -- a word outside both, while the first k words of each are stored
   pub source-both : (w₀ w : List A) (m h k : ℕ) (f g : ℕ → A) (j : ℕ) → w ≡ write (write w₀ m k f) (m + h) k g → k ≤ h → (j < m) ⊎ (m + (h + h) ≤ j)
       → getD w j z ≡ getD w₀ j z
@@ -156,3 +185,10 @@ module _ {A : Type 0} (z : A) where
   -- word i of the part
   pub getD-mid : (w : List A) (y k i : ℕ) → i < k → getD (midOf y k w) i z ≡ getD w (y + i) z
   getD-mid w y k i lt = getD-take k (drop y w) i z lt ∙ getD-drop y w i z
+
+-- four stores
+pub set-four : (w : List ℤ) (d : ℕ) (p′ q′ r′ s′ p q r s : ℤ) → p′ ≡ p → q′ ≡ q → r′ ≡ r → s′ ≡ s
+    → set (set (set (set w d p′) (d + 1) q′) (d + 2) r′) (d + 3) s′ ≡ write w d 4 (four p q r s)
+unfolding write
+set-four w d p′ q′ r′ s′ p q r s ep eq er es =
+    rw (ep, eq, er, es) (ap (λ (i : ℕ). set (set (set (set w i p) (d + 1) q) (d + 2) r) (d + 3) s) (let e : d ≡ d + 0 = omega arith in e))

@@ -42,6 +42,13 @@ unfoldable pub write : {A : Type 0} → List A → ℕ → ℕ → (ℕ → A) �
 write w a zero f = w
 write w a (suc n) f = set (write w a n f) (a + n) (f n)
 
+-- four words by their places
+abbrev pub four : ℤ → ℤ → ℤ → ℤ → ℕ → ℤ
+four p q r s zero = p
+four p q r s (suc zero) = q
+four p q r s (suc (suc zero)) = r
+four p q r s (suc (suc (suc k))) = s
+
 -- w with the soft values of M stored from m on
 abbrev pub stored : List ℤ → ℕ → ℕ → List Soft → List ℤ
 stored w m s M = write w m s (λ k. wordOf (M at k))

@@ -5,7 +5,7 @@ ghost use Prim.Native.Nat.{_+_, _<_, _≤_};
 ghost use lib.IntN.{_-ℤ_};
 ghost use lib.Signed.{ltZ};
 ghost use lib.ListN.{length};
-ghost use Rattle.words.specs.Words.{boxWord, addWord, Word, Added, word, write, Finite};
+ghost use Rattle.words.specs.Words.{boxWord, addWord, Word, Added, word, write, four, Finite};
 
 fn min_word(a: i32, b: i32) -> i32
     ensures { λ r. ⌜ r ≡ cond (ltZ a b) a b ⌝ }
@@ -69,6 +69,17 @@ pub fn fill(w: &mut [i32], m: usize, s: usize, value: i32)
         w[m + k] = value;
         k += 1;
     }
+}
+
+// w[d], w[d + 1], w[d + 2], w[d + 3] = p, q, r, s. Stores side by side, after all four words are known, compile to one.
+pub fn store_four(w: &mut [i32], d: usize, p: i32, q: i32, r: i32, s: i32)
+    requires { ⌜ d + 4 ≤ length (now w) ⌝ }
+    ensures { λ _. ⌜ now (w .exit) ≡ write (now (w .entry)) d 4 (four p q r s) ⌝ }
+{
+    w[d] = p;
+    w[d + 1] = q;
+    w[d + 2] = r;
+    w[d + 3] = s;
 }
 
 // w[m + k] = llrs[k]
