@@ -192,3 +192,11 @@ pub set-four : (w : List ℤ) (d : ℕ) (p′ q′ r′ s′ p q r s : ℤ) → 
 unfolding write
 set-four w d p′ q′ r′ s′ p q r s ep eq er es =
     rw (ep, eq, er, es) (ap (λ (i : ℕ). set (set (set (set w i p) (d + 1) q) (d + 2) r) (d + 3) s) (let e : d ≡ d + 0 = omega arith in e))
+
+-- four words that are the next ones of f
+pub four-next : (f : ℕ → ℤ) (k : ℕ) (p q r s : ℤ) → p ≡ f k → q ≡ f (k + 1) → r ≡ f (k + 2) → s ≡ f (k + 3) → (j : ℕ) → j < 4 → four p q r s j ≡ f (k + j)
+four-next f k p q r s ep eq er es zero lt = ep ∙ ap f (let e : k ≡ k + 0 = omega arith in e)
+four-next f k p q r s ep eq er es (suc zero) lt = eq
+four-next f k p q r s ep eq er es (suc (suc zero)) lt = er
+four-next f k p q r s ep eq er es (suc (suc (suc zero))) lt = es
+four-next f k p q r s ep eq er es (suc (suc (suc (suc j)))) lt = absurd (omega arith)
