@@ -20,6 +20,7 @@ use messages::type_three_message;
 use words::copy_words;
 use words::fill;
 use words::load_llrs;
+use words::pick_word;
 ghost use mathlib.Core.Path.{_≡_};
 ghost use Prim.Native.Nat.{_+_, _*_, _≤_, _<_};
 ghost use lib.ListN.{length, take, drop};
@@ -91,11 +92,8 @@ fn fixed_child(w: &mut [i32], child: Fixed, m: usize, x: usize, s: usize)
     requires { ⌜ (m + s ≤ x) × (x + s ≤ length (now w)) ⌝ }
     ensures { λ _. ⌜ now (w .exit) ≡ stored (now (w .entry)) m s (shortcut (cond (child .certain) rate-0 rate-1) s (soft (now (w .entry)) x s)) ⌝ }
 {
-    if child.certain {
-        rate_zero_message(w, m, x, s);
-    } else {
-        rate_one_message(w, m, x, s);
-    }
+    let value = pick_word(child.certain, 2147483647, 0);
+    fill(w, m, s, value);
 }
 
 // The incoming list of the left child, at c: the node's is at x, the right child's message at r. In the first sweep that message is 0, whatever is stored.
