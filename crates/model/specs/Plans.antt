@@ -155,7 +155,7 @@ cutsOf k plan (suc t) p mask =
 unfoldable pub counts : List ℕ → ℕ → List ℕ → List ℕ
 counts plan n mask = map (λ k. cutsOf k plan n 1 mask) order
 
--- ---- plans as a recursion from the root down, which the code follows; proofs/Paths.antt shows that it says what `Allowed` says
+-- ---- plans as a recursion from the root down; proofs/Paths.antt shows that it says what `Allowed` says
 
 -- neither node p nor a node below it is cut
 unfoldable pub noCut : List ℕ → ℕ → ℕ → Bool
