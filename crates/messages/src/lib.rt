@@ -1,9 +1,10 @@
 // The messages of the kinds, from a node's incoming list of words.
 use words::fill;
 use words::pick_word;
+use words::store_four;
 ghost use mathlib.Core.Path.{_≡_};
 ghost use mathlib.Core.Bool.{cond};
-ghost use Prim.Native.Nat.{ℕ, _+_, _<_, _≤_, min, max};
+ghost use Prim.Native.Nat.{ℕ, _+_, _%_, _<_, _≤_, min, max};
 ghost use lib.IntN.{pos, natAbs, negℤ, _-ℤ_};
 ghost use lib.ListN.{length};
 ghost use Rattle.model.specs.Soft.{mark};
@@ -130,8 +131,8 @@ fn subtract(w: &mut [i32], m: usize, x: usize, s: usize, a: i32, b: i32)
     }
 }
 
-// w[m + k] = the value of SPC at w[x + k], with what was gathered at even places (a1, a2, an) and at odd ones
-fn spread(
+// What `spread` does, one place at a time.
+fn spread_ones(
     w: &mut [i32],
     m: usize,
     x: usize,
@@ -157,6 +158,61 @@ fn spread(
         let v = leave_out(w[x + k], m1, m2, neg);
         w[m + k] = v;
         k += 1;
+    }
+}
+
+// What `spread` does, four places at a time: the four words are read before any value is stored.
+fn spread_fours(
+    w: &mut [i32],
+    m: usize,
+    x: usize,
+    s: usize,
+    a1: u32,
+    a2: u32,
+    an: bool,
+    b1: u32,
+    b2: u32,
+    bn: bool,
+)
+    requires { ⌜ (m + s ≤ x) × (x + s ≤ length (now w)) ⌝ }
+    requires { ⌜ Words (now w) x s ⌝ }
+    requires { ⌜ (a1 ≤ mark) × (a2 ≤ mark) × (b1 ≤ mark) × (b2 ≤ mark) ⌝ }
+    requires { ⌜ s % 4 ≡ 0 ⌝ }
+    ensures { λ _. ⌜ now (w .exit) ≡ write (now (w .entry)) m s (λ k. leaveOut (cond (isOdd k) b1 a1) (cond (isOdd k) b2 a2) (cond (isOdd k) bn an) (word (now (w .entry)) (x + k))) ⌝ }
+{
+    let mut k = 0;
+    while k < s {
+        let p = leave_out(w[x + k], a1, a2, an);
+        let q = leave_out(w[x + k + 1], b1, b2, bn);
+        let r = leave_out(w[x + k + 2], a1, a2, an);
+        let t = leave_out(w[x + k + 3], b1, b2, bn);
+        store_four(w, m + k, p, q, r, t);
+        k += 4;
+    }
+}
+
+// w[m + k] = the value of SPC at w[x + k], with what was gathered at even places (a1, a2, an) and at odd ones
+fn spread(
+    w: &mut [i32],
+    m: usize,
+    x: usize,
+    s: usize,
+    a1: u32,
+    a2: u32,
+    an: bool,
+    b1: u32,
+    b2: u32,
+    bn: bool,
+)
+    requires { ⌜ (m + s ≤ x) × (x + s ≤ length (now w)) ⌝ }
+    requires { ⌜ Words (now w) x s ⌝ }
+    requires { ⌜ (a1 ≤ mark) × (a2 ≤ mark) × (b1 ≤ mark) × (b2 ≤ mark) ⌝ }
+    ensures { λ _. ⌜ now (w .exit) ≡ write (now (w .entry)) m s (λ k. leaveOut (cond (isOdd k) b1 a1) (cond (isOdd k) b2 a2) (cond (isOdd k) bn an) (word (now (w .entry)) (x + k))) ⌝ }
+{
+    if s % 4 == 0 {
+        spread_fours(w, m, x, s, a1, a2, an, b1, b2, bn);
+    } else {
+        spread_ones(w, m, x, s, a1, a2, an, b1, b2, bn);
     }
 }
 

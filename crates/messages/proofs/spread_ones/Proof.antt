@@ -1,4 +1,4 @@
--- `messages::spread` meets its contract. The loop's invariant: the first k values are stored. Assumes nothing.
+-- `messages::spread_ones` meets its contract. The loop's invariant: the first k values are stored. Assumes nothing.
 use mathlib.Core.Path.{_≡_, refl, ap, _∙_}
 use mathlib.Core.Bool.{cond}
 use Prim.Native.Nat.{ℕ, _+_, _-_, _≤_}
@@ -13,8 +13,8 @@ use Rattle.messages.specs.Sums.{isOdd, leaveOut}
 use Rattle.words.proofs.Signed.{back}
 use Rattle.words.proofs.Store.{store-none, store-more, source-above}
 use borrow.Author.Needs.{needs}
-use Rattle.messages.proofs.spread.Statement.{statement}
-use Rattle.messages.proofs.spread.Tie as tie
+use Rattle.messages.proofs.spread_ones.Statement.{statement}
+use Rattle.messages.proofs.spread_ones.Tie as tie
 
 abbrev Inv-loop : tie.InvT-loop
 Inv-loop w₀ m x s a1 a2 an b1 b2 bn k₀ w k = (k ≤ s) × (w ≡ write w₀ m k (λ j. leaveOut (cond (isOdd j) b1 a1) (cond (isOdd j) b2 a2) (cond (isOdd j) bn an) (word w₀ (x + j)))) × (length w ≡ length w₀)
@@ -101,8 +101,8 @@ returns c =
     at-loop .loop .inv .1
     ∙ ap (λ (n : ℕ). write (a .w .now) (a .m) n (λ (j : ℕ). leaveOut (cond (isOdd j) (a .b1) (a .a1)) (cond (isOdd j) (a .b2) (a .a2)) (cond (isOdd j) (a .bn) (a .an)) (word (a .w .now) (a .x + j)))) (le-antisymm (at-loop .loop .inv .0) (c .loop-test .left))
 
-pub spread-spec : {M : Type 1} → statement M
-spread-spec =
+pub spread-ones-spec : {M : Type 1} → statement M
+spread-ones-spec =
     tie.close
     (tie.spec
     Inv-loop
