@@ -4,3 +4,4 @@ pub mod StrideLoop
 pub mod Placing
 pub mod Calls
 pub mod RoundTrip
+pub mod Pairs

@@ -1,7 +1,7 @@
 // The transform of N bits in place, and the encoder.
 ghost use mathlib.Core.Path.{_≡_};
 ghost use mathlib.Core.Bool.{true, cond};
-ghost use Prim.Native.Nat.{_+_, _*_, _^_, _%_, _≤_, _<_};
+ghost use Prim.Native.Nat.{_+_, _*_, _/_, _^_, _%_, _≤_, _<_};
 ghost use lib.ListN.{length, getD};
 ghost use Rattle.model.specs.Lists.{over};
 ghost use Rattle.model.specs.Encoding.{isUnfrozen, unfrozen, place, transform};
@@ -58,13 +58,27 @@ fn add_halves(bits: &mut [u8], h: usize, count: usize)
     }
 }
 
+// Every block at stride 1: the byte after each even place is added to it. The loop goes through all places, so that the compiler can work on many
+// at once: `odd` is 1 where k - 1 is even, and otherwise 0.
+fn add_pairs(bits: &mut [u8])
+    requires { ⌜ length (now bits) % 2 ≡ 0 ⌝ }
+    ensures { λ _. ⌜ now (bits .exit) ≡ addHalves 1 (length (now (bits .entry)) / 2) (now (bits .entry)) ⌝ }
+{
+    let mut k: usize = 1;
+    while k < bits.len() {
+        let odd = (k % 2) as u8;
+        bits[k - 1] = bits[k - 1] ^ (odd * bits[k]);
+        k += 1;
+    }
+}
+
 // The same, with the short strides as constants: then the compiler can work on several bytes at once.
 fn stride(bits: &mut [u8], h: usize, count: usize)
     requires { ⌜ (length (now bits) ≡ count * (2 * h)) × (2 * h ≤ length (now bits)) ⌝ }
     ensures { λ _. ⌜ now (bits .exit) ≡ addHalves h count (now (bits .entry)) ⌝ }
 {
     match h {
-        1 => add_halves(bits, 1, count),
+        1 => add_pairs(bits),
         2 => add_halves(bits, 2, count),
         4 => add_halves(bits, 4, count),
         8 => add_halves(bits, 8, count),

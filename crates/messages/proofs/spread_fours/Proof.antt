@@ -2,7 +2,7 @@
 use mathlib.Core.Path.{_≡_, refl, ap, _∙_}
 use mathlib.Core.Bool.{Bool, cond}
 use mathlib.Core.List.{List}
-use Prim.Native.Nat.{ℕ, zero, suc, _+_, _-_, _^_, _%_, _≤_, _<_}
+use Prim.Native.Nat.{ℕ, _+_, _-_, _^_, _%_, _≤_, _<_}
 use native.Mathlib.Omega.{arith}
 use native.Mathlib.Nat.{le-antisymm}
 use lib.IntN.{ℤ, pos}
@@ -14,7 +14,7 @@ use lib.ListN.{length}
 use Rattle.words.specs.Words.{Word, word, write, four}
 use Rattle.messages.specs.Sums.{isOdd, leaveOut}
 use Rattle.words.proofs.Signed.{back}
-use Rattle.words.proofs.Store.{store-none, store-next, source-above}
+use Rattle.words.proofs.Store.{store-none, store-next, four-next, source-above}
 use borrow.Author.Needs.{needs}
 use Rattle.messages.proofs.spread_fours.Statement.{statement}
 use Rattle.messages.proofs.spread_fours.Tie as tie
@@ -35,11 +35,9 @@ module _ (w : List ℤ) (x a1 a2 : ℕ) (an : Bool) (b1 b2 : ℕ) (bn : Bool) (k
   four-are : (p q r t : ℤ) → p ≡ leaveOut a1 a2 an (word w (x + (k + 0))) → q ≡ leaveOut b1 b2 bn (word w (x + (k + 1)))
       → r ≡ leaveOut a1 a2 an (word w (x + (k + 2))) → t ≡ leaveOut b1 b2 bn (word w (x + (k + 3)))
       → (j : ℕ) → j < 4 → four p q r t j ≡ at-place w x a1 a2 an b1 b2 bn (k + j)
-  four-are p q r t ep eq er et zero lt = ep ∙ place-is 0
-  four-are p q r t ep eq er et (suc zero) lt = eq ∙ place-is 1
-  four-are p q r t ep eq er et (suc (suc zero)) lt = er ∙ place-is 2
-  four-are p q r t ep eq er et (suc (suc (suc zero))) lt = et ∙ place-is 3
-  four-are p q r t ep eq er et (suc (suc (suc (suc j)))) lt = absurd (omega arith)
+  four-are p q r t ep eq er et =
+      let at-k : k + 0 ≡ k = omega arith in
+      four-next (at-place w x a1 a2 an b1 b2 bn) k p q r t (ep ∙ place-is 0 ∙ ap (at-place w x a1 a2 an b1 b2 bn) at-k) (eq ∙ place-is 1) (er ∙ place-is 2) (et ∙ place-is 3)
 
 abbrev Inv-loop : tie.InvT-loop
 Inv-loop w₀ m x s a1 a2 an b1 b2 bn k₀ w k = (k ≤ s) × (k % 4 ≡ 0) × (w ≡ write w₀ m k (at-place w₀ x a1 a2 an b1 b2 bn)) × (length w ≡ length w₀)
