@@ -29,7 +29,7 @@
  * accepted. A refused call answers its number with every other result 0 and leaves every buffer as it was, the
  * workspace too. If several causes apply, the lowest number of those that the call tests is answered.
  *
- * Stack. At N = 1024 the decoder used 4.4 KB, planner and plan check 2.1 KB each, the others 0.1 KB. host/stack.c
+ * Stack. At N = 1024 the decoder used 4.4 KB, planner and plan check 1.8 KB each, the others 0.1 KB. host/stack.c
  * measures this; take its figures for the library that you link.
  */
 #ifndef RUZNAVO_H

@@ -1,21 +1,19 @@
 -- The state that a sweep begins with: at the cuts and above them that before the first sweep, or the stored one. Assumes nothing.
-use mathlib.Core.Path.{_≡_, refl, sym, ap, ap₂, _∙_, subst}
-use mathlib.Core.Bool.{Bool, true, false, cond, _&&_}
+use mathlib.Core.Path.{_≡_, refl, sym, ap, _∙_, subst}
+use mathlib.Core.Bool.{Bool, true, false, cond}
 use lib.IntN.{ℤ}
 use mathlib.Core.List.{List}
 use Prim.Native.Nat.{ℕ, zero, suc, _+_, _*_, _^_, _<_}
 use lib.Dec.{T}
 use lib.ListN.{take, drop}
-use Rattle.model.specs.Lists.{tabulate}
 use Rattle.model.specs.Soft.{Soft, softZero, _at_}
 use Rattle.model.specs.Scan.{Tree, leaf, node, message, left, right, start}
 use Rattle.model.specs.Kinds.{isSome, kindOf}
-use Rattle.model.specs.Plans.{isCut, isRate01, wellCut, put, Agree, Stays}
+use Rattle.model.specs.Plans.{isCut, wellCut, put, Agree, Stays}
 use Rattle.model.specs.Bounds.{Held, UnderAll}
-use Rattle.model.proofs.Lists.{T-true, absurd-bool, and-l, and-r, getD-tabulate}
+use Rattle.model.proofs.Lists.{T-true, and-l, and-r, getD-tabulate}
 use Rattle.model.proofs.Cycles.{leaf-rate01}
 use Rattle.model.proofs.PlannedWalk.{message-put, stays-same}
-use Rattle.model.proofs.Bounds.{held-message}
 use Rattle.scan.specs.Space.{overlaid, begun, constant, treeAt}
 
 pub overlaid-message : (plan : List ℕ) (t p : ℕ) (S P : Tree) → message (overlaid plan t p S P) ≡ message S

@@ -2,7 +2,7 @@
 use mathlib.Core.Path.{_≡_, refl, sym, ap, ap₂, _∙_, subst}
 use mathlib.Core.Bool.{Bool, true, false, cond, _&&_, _||_}
 use mathlib.Core.Option.{Option, none, some}
-use lib.IntN.{ℤ}
+use lib.IntN.{ℤ, pos}
 use mathlib.Core.List.{List}
 use Prim.Native.Nat.{ℕ, zero, suc, _+_, _-_, _*_, _^_, _≤_, _<_}
 use native.Mathlib.Nat.{mul-comm, mul-le-mul-right}
@@ -11,7 +11,7 @@ use lib.Dec.{T, eqb→eq}
 use lib.ListN.{length, getD, take, drop, length-drop}
 use lib.Seq.{length-take-le}
 use Rattle.model.specs.Lists.{tabulate}
-use Rattle.model.specs.Soft.{Soft, certain, softZero, _at_, box, plus, wordOf}
+use Rattle.model.specs.Soft.{Soft, certain, softZero, _at_, box, plus, mark, wordOf}
 use Rattle.model.specs.Scan.{leaf}
 use Rattle.model.specs.Kinds.{isSome, isKind, Kind, rate-0, rate-1, REP, SPC, type-I, type-III, kindOf, shortcut, others}
 use Rattle.model.specs.Plans.{isRate01, isCut, wellCut, putKind, put}
@@ -20,8 +20,10 @@ use Rattle.model.proofs.Lists.{T-true, true-T, double, tabulate-ext, getD-tabul
 use Rattle.model.proofs.PlannedWalk.{walk-cut}
 use Rattle.model.proofs.Paths.{wellCut-cut}
 use Rattle.model.proofs.Bounds.{shortcut-under, under-mono}
-use Rattle.words.specs.Words.{word, softOf, soft, stored, Incoming}
+use Rattle.words.specs.Words.{word, softOf, soft, write, stored, Incoming}
 use Rattle.words.proofs.Laws.{soft-word, soft-at, small-size}
+use Rattle.words.proofs.Store.{write-ext}
+use Rattle.messages.proofs.Messages.{zero-value, rate-one-value}
 use Rattle.scan.specs.Space.{constant, FixedAs, treeAt, begun, part, Room, Visited, cutWords}
 use Rattle.scan.proofs.Begun.{begun-put}
 use Rattle.scan.proofs.Known.{is-kind}
@@ -126,7 +128,7 @@ kind-stage mask b s t size = ap (λ (k : ℕ). kindOf k (take k (drop b mask))) 
 
 -- a node whose message is fixed, in the code's terms
 pub visited-fixed : {plan mask : List ℕ} {N t s p b x : ℕ} {first : Bool} {w v : List ℤ} → Room plan mask N t s p b x first w → (a z : Bool) → FixedAs plan s p (take s (drop b mask)) a z → (a || z) ≡ true
-    → v ≡ stored w (t * N + b) s (shortcut (cond a rate-0 rate-1) s (soft w x s)) → Visited plan mask N t p b x first w v
+    → v ≡ write w (t * N + b) s (λ k. cond a (pos mark) (pos 0)) → Visited plan mask N t p b x first w v
 visited-fixed {plan} {mask} {N} {t} {s} {p} {b} {x} {first} {w} {v} room a z f skip e = go a z (sym (f .as-certain)) (sym (f .as-zero)) skip e
   where
     of-kind : (k : Kind) → (isCut plan p && isKind k (kindOf s (take s (drop b mask)))) ≡ true → v ≡ stored w (t * N + b) s (shortcut k s (soft w x s)) → Visited plan mask N t p b x first w v
@@ -137,9 +139,9 @@ visited-fixed {plan} {mask} {N} {t} {s} {p} {b} {x} {first} {w} {v} room a z f s
         visited-cut plan mask N t s p b x first w v room yes (e ∙ ap (λ (i : Option Kind). cutWords i w (t * N + b) x s) (sym o ∙ kind-stage mask b s t (room .size)))
 
     go : (a z : Bool) → (isCut plan p && isKind rate-0 (kindOf s (take s (drop b mask)))) ≡ a → (isCut plan p && isKind rate-1 (kindOf s (take s (drop b mask)))) ≡ z → (a || z) ≡ true
-        → v ≡ stored w (t * N + b) s (shortcut (cond a rate-0 rate-1) s (soft w x s)) → Visited plan mask N t p b x first w v
-    go true z c d q e = of-kind rate-0 c e
-    go false true c d q e = of-kind rate-1 d e
+        → v ≡ write w (t * N + b) s (λ k. cond a (pos mark) (pos 0)) → Visited plan mask N t p b x first w v
+    go true z c d q e = of-kind rate-0 c (e ∙ write-ext (pos 0) w (t * N + b) s _ _ (zero-value s (soft w x s)))
+    go false true c d q e = of-kind rate-1 d (e ∙ write-ext (pos 0) w (t * N + b) s _ _ (rate-one-value s (soft w x s)))
     go false false c d q e = absurd (subst T (sym q) tt)
 
 -- what the message of a cut node requires of its incoming list

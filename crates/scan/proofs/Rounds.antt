@@ -24,7 +24,7 @@ use Rattle.model.proofs.PlannedWalk.{walk-stays, stays-then}
 use Rattle.model.proofs.Bounds.{held-sweeps, within-held, within-start}
 use Rattle.words.specs.Words.{word, softOf, soft, write, stored}
 use Rattle.words.proofs.Laws.{soft-at, word-soft, soft-fin}
-use Rattle.words.proofs.Store.{length-write, write-is, write-ext, source-below, source-above}
+use Rattle.words.proofs.Store.{length-write, write-is, write-ext, source-above}
 use Rattle.scan.specs.Space.{treeAt, begun, part, Room, Kept, Visited, Ready, Swept, Decodable}
 use Rattle.scan.proofs.Begun.{overlaid-agrees, overlaid-held, begun-stays}
 use Rattle.scan.proofs.Keep.{tree-message, soft-cong, stored-at}

@@ -28,8 +28,8 @@ ghost use lib.IntN.{pos};
 ghost use mathlib.Core.List.{map};
 ghost use Rattle.model.specs.Soft.{finite, mark};
 ghost use Rattle.model.specs.Scan.{scan};
-ghost use Rattle.words.specs.Words.{Incoming, soft, stored, write, Holds, boxAt, boxPlus, plusBox, Words, Sums, BoxSums, FiniteBoxSums};
-ghost use Rattle.model.specs.Kinds.{kindOf, isSome, shortcut, rate-0, rate-1};
+ghost use Rattle.words.specs.Words.{Incoming, stored, write, Holds, boxAt, boxPlus, plusBox, Words, Sums, BoxSums, FiniteBoxSums};
+ghost use Rattle.model.specs.Kinds.{kindOf, isSome};
 ghost use Rattle.model.specs.Plans.{isCut, isRate01};
 ghost use lib.Dec.{T};
 ghost use mathlib.Core.Bool.{true, false, cond, _||_};
@@ -88,9 +88,9 @@ fn is_fixed(m: Fixed) -> bool
 }
 
 // The message of a child whose message is fixed, at m: certain or 0 everywhere.
-fn fixed_child(w: &mut [i32], child: Fixed, m: usize, x: usize, s: usize)
-    requires { ⌜ (m + s ≤ x) × (x + s ≤ length (now w)) ⌝ }
-    ensures { λ _. ⌜ now (w .exit) ≡ stored (now (w .entry)) m s (shortcut (cond (child .certain) rate-0 rate-1) s (soft (now (w .entry)) x s)) ⌝ }
+fn fixed_child(w: &mut [i32], child: Fixed, m: usize, s: usize)
+    requires { ⌜ m + s ≤ length (now w) ⌝ }
+    ensures { λ _. ⌜ now (w .exit) ≡ write (now (w .entry)) m s (λ k. cond (child .certain) (pos mark) (pos 0)) ⌝ }
 {
     let value = pick_word(child.certain, 2147483647, 0);
     fill(w, m, s, value);
@@ -187,14 +187,14 @@ fn visit(
     let d = b + h;
     let left = fixed_message(plan, mask, q, b, h);
     if is_fixed(left) {
-        fixed_child(work, left, l, c, h);
+        fixed_child(work, left, l, h);
     } else {
         left_list(work, first, c, x, r, h);
         visit(work, plan, mask, n, u, h, q, b, c, first);
     }
     let right = fixed_message(plan, mask, q + 1, d, h);
     if is_fixed(right) {
-        fixed_child(work, right, r, c, h);
+        fixed_child(work, right, r, h);
     } else {
         right_list(work, left, c, x, l, h);
         visit(work, plan, mask, n, u, h, q + 1, d, c, first);

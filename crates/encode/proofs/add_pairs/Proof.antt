@@ -2,11 +2,9 @@
 use Prim.Native.Nat.{ℕ, _+_, _*_, _-_, _/_, _%_, _≤_}
 use native.Mathlib.Omega.{arith}
 use mathlib.Core.Path.{_≡_, sym, _∙_, ap, ap₂, subst}
-use mathlib.Core.List.{List}
 use borrow.Author.Needs.{needs}
 use lib.Bits.{bitXor}
-use lib.ListN.{length, getD, set}
-use Rattle.encode.specs.Steps.{addHalves}
+use lib.ListN.{length, getD}
 use Rattle.encode.proofs.Filled.{Filled, filled-none, filled-more, filled-read}
 use Rattle.encode.proofs.Pairs.{pairs, pairs-odd, pairs-all, rest-kept, bounded}
 use Rattle.encode.proofs.add_pairs.Statement.{statement}

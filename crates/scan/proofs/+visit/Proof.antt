@@ -13,10 +13,10 @@ use borrow.Fn.Kinds.{In}
 use borrow.Fn.PlainCycle.{Measures, is, falls, and}
 use Rattle.model.specs.Kinds.{Kind, isSome, kindOf}
 use Rattle.model.specs.Plans.{isRate01}
-use lib.IntN.{ℤ}
+use lib.IntN.{ℤ, pos}
 use mathlib.Core.List.{List}
-use Rattle.model.specs.Kinds.{rate-0, rate-1, shortcut}
-use Rattle.words.specs.Words.{soft, stored, write, boxAt, boxPlus, plusBox}
+use Rattle.model.specs.Soft.{mark}
+use Rattle.words.specs.Words.{write}
 use Rattle.scan.specs.Space.{part, Visited, cutWords}
 use Rattle.scan.proofs.Nodes.{Geo, geo, inside}
 use Rattle.model.proofs.Paths.{wellCut-cut}
@@ -218,8 +218,7 @@ module _ (t : ℕ) where
       let start = el .before .before .before .before in
       let a = start .args in
       let room = start .pre .1 in
-      let g = numbers el in
-      (omega arith, omega arith)
+      let g = numbers el in omega arith
 
   visit-left-list-requires : visit-lts.Need-left-list-requires (around t) (visit-at t) visit.Post
   visit-left-list-requires c κs =
@@ -306,7 +305,7 @@ module _ (t : ℕ) where
       let room = start .pre .1 in
       let g = numbers el in
       let kept = left-done met .long in
-      (omega arith, omega arith)
+      omega arith
 
   visit-right-list-requires : visit-lts.Need-right-list-requires (around t) (visit-at t) visit.Post
   visit-right-list-requires c κs =
@@ -375,7 +374,7 @@ module _ (t : ℕ) where
         visited = subst (after (met .if2 .work)) (sym (m .4))
             (visited-fixed (running el .four (known .result .certain) (known .result .zero) (known .ensures) (met .if2 .work) (left-done met) (known₂ .result .certain) (known₂ .result .zero) (known₂ .ensures) (met .if2 .work) none)
             (known₂ .result .certain) (known₂ .result .zero) (known₂ .ensures) (skips ∙ m .0 .taken)
-            (m .2 .ensures ∙ ap (λ (i : ℕ). stored (met .if2 .work) i (a .s / 2) (shortcut (cond (known₂ .result .certain) rate-0 rate-1) (a .s / 2) (soft (met .if2 .work) (a .x + a .s) (a .s / 2)))) place));
+            (m .2 .ensures ∙ ap (λ (i : ℕ). write (met .if2 .work) i (a .s / 2) (λ k. cond (known₂ .result .certain) (pos mark) (pos 0))) place));
         long = ap length (m .4) ∙ m .2 .kept .0;
       })
       (λ m. record {
