@@ -153,7 +153,7 @@ sign-min a true n (suc m) = refl
 sign-min a false n m = refl
 
 -- ---- a turn of the loop that gathers: the numbers so far together with the rest
-either : (a b : ℕ) → (a ≤ b) ⊎ (b ≤ a)
+pub either : (a b : ℕ) → (a ≤ b) ⊎ (b ≤ a)
 either a b = min-cases a b ((a ≤ b) ⊎ (b ≤ a)) (λ p e. inl p) (λ p e. inr p)
 
 pub median : (s m l : ℕ) → min (max s m) (max (min s m) l) ≡ min (max s l) (max m (min s l))
@@ -169,18 +169,18 @@ median s m l = go (either s m) (either s l)
 abbrev pub nextWith : ℕ → ℕ → List ℤ → ℕ
 nextWith a b l = min (min b (next l)) (max a (least l))
 
+pub min-third : (b p n q : ℕ) → min (min (min b p) n) q ≡ min (min b n) (min p q)
+min-third b p n q = omega arith
+
+pub min-second : (b n p q : ℕ) → min (min b (min n p)) q ≡ min (min b n) (min p q)
+min-second b n p q = omega arith
+
 pub next-turn : (a b : ℕ) (x : ℤ) (l : List ℤ) → nextWith (min (natAbs x) a) (min b (max (natAbs x) a)) l ≡ nextWith a b (x ∷ l)
 unfolding next least
 next-turn a b x l =
-    shuffle b (max (natAbs x) a) (next l) (max (min (natAbs x) a) (least l))
+    min-third b (max (natAbs x) a) (next l) (max (min (natAbs x) a) (least l))
     ∙ ap (min (min b (next l))) (median (natAbs x) a (least l))
-    ∙ sym (shuffle' b (next l) (max (natAbs x) (least l)) (max a (min (natAbs x) (least l))))
-  where
-    shuffle : (b p n q : ℕ) → min (min (min b p) n) q ≡ min (min b n) (min p q)
-    shuffle b p n q = omega arith
-
-    shuffle' : (b n p q : ℕ) → min (min b (min n p)) q ≡ min (min b n) (min p q)
-    shuffle' b n p q = omega arith
+    ∙ sym (min-second b (next l) (max (natAbs x) (least l)) (max a (min (natAbs x) (least l))))
 
 -- ---- a turn of a loop over a class, and its end
 module _ (d i : ℕ) (l : List ℤ) (h : i < length l) where

@@ -1,16 +1,21 @@
 // The messages of the kinds, from a node's incoming list of words.
 use words::fill;
+use words::max_word;
+use words::min_word;
 use words::pick_word;
 use words::store_four;
 ghost use mathlib.Core.Path.{_≡_};
-ghost use mathlib.Core.Bool.{cond};
-ghost use Prim.Native.Nat.{ℕ, _+_, _%_, _<_, _≤_, min, max};
-ghost use lib.IntN.{pos, natAbs, negℤ, _-ℤ_};
-ghost use lib.ListN.{length};
-ghost use Rattle.model.specs.Soft.{mark};
+ghost use mathlib.Core.Bool.{true, false, cond};
+ghost use mathlib.Core.List.{List};
+ghost use Prim.Native.Nat.{ℕ, _+_, _*_, _%_, _<_, _≤_, min, max};
+ghost use lib.IntN.{ℤ, pos, natAbs, negℤ, _-ℤ_};
+ghost use lib.Signed.{mag};
+ghost use lib.ListN.{length, drop};
+ghost use Rattle.model.specs.Soft.{mark, negative};
 ghost use Rattle.model.specs.Kinds.{shortcut, rate-0, rate-1, REP, SPC, type-I, type-III};
-ghost use Rattle.words.specs.Words.{Word, word, soft, write, stored, Words, Incoming};
+ghost use Rattle.words.specs.Words.{Word, word, soft, write, stored, Words, Incoming, Holds};
 ghost use Rattle.messages.specs.Sums.{strided, sumZ, sizes, least, next, parity, isOdd, leaveOut};
+ghost use Rattle.messages.specs.Folds.{fourList, keepSign, lowAt, highAt};
 
 // The size of a word.
 fn abs_word(a: i32) -> i32
@@ -95,6 +100,103 @@ fn gather(l: &[i32], d: usize, c: usize) -> Gathered
         let s = size_word(x);
         m2 = min_size(m2, max_size(s, m1));
         m1 = min_size(s, m1);
+        neg = (x < 0) != neg;
+        i += d + 1;
+    }
+    Gathered {
+        least: m1,
+        next: m2,
+        neg,
+    }
+}
+
+// The least size of four words.
+fn least_of(a: i32, b: i32, c: i32, d: i32) -> i32
+    requires { ⌜ Word a × Word b × Word c × Word d ⌝ }
+    ensures { λ r. ⌜ r ≡ pos (least (fourList a b c d)) ⌝ }
+{
+    let low = min_word(abs_word(a), abs_word(b));
+    let low2 = min_word(abs_word(c), abs_word(d));
+    min_word(low, low2)
+}
+
+// The size next to the least one of four words.
+fn next_of(a: i32, b: i32, c: i32, d: i32) -> i32
+    requires { ⌜ Word a × Word b × Word c × Word d ⌝ }
+    ensures { λ r. ⌜ r ≡ pos (next (fourList a b c d)) ⌝ }
+{
+    let sa = abs_word(a);
+    let sb = abs_word(b);
+    let sc = abs_word(c);
+    let sd = abs_word(d);
+    let lows = max_word(min_word(sa, sb), min_word(sc, sd));
+    let highs = min_word(max_word(sa, sb), max_word(sc, sd));
+    min_word(lows, highs)
+}
+
+// Whether the product of the signs of four words is negative.
+fn parity_of(a: i32, b: i32, c: i32, d: i32) -> bool
+    ensures { λ r. ⌜ r ≡ parity (fourList a b c d) ⌝ }
+{
+    ((a < 0) != (b < 0)) != ((c < 0) != (d < 0))
+}
+
+// The size n with a sign: -1 - n if neg, else n.
+fn keep_sign(neg: bool, n: i32) -> i32
+    requires { ⌜ negative n ≡ false ⌝ }
+    ensures { λ r. ⌜ r ≡ keepSign neg (natAbs n) ⌝ }
+{
+    if neg { -1 - n } else { n }
+}
+
+// The size that was kept with a sign.
+fn kept_size(x: i32) -> u32
+    ensures { λ r. ⌜ r ≡ mag x ⌝ }
+{
+    if x < 0 { (-1 - x) as u32 } else { x as u32 }
+}
+
+// Folds the four quarters of the list at x, each of q words: w[m + k] is the least size at place k of the quarters, and w[m + q + k] the next one with the product of the signs.
+fn fold(w: &mut [i32], m: usize, x: usize, q: usize)
+    requires { ⌜ (m + 4 * q ≤ x) × (x + 4 * q ≤ length (now w)) ⌝ }
+    requires { ⌜ Words (now w) x (4 * q) ⌝ }
+    ensures { λ _. ⌜ now (w .exit) ≡ write (write (now (w .entry)) m q (lowAt (drop x (now (w .entry))) q)) (m + q) q (highAt (drop x (now (w .entry))) q) ⌝ }
+{
+    let n = m + q;
+    let x1 = x + q;
+    let x2 = x1 + q;
+    let x3 = x2 + q;
+    let mut k = 0;
+    while k < q {
+        let a = w[x + k];
+        let b = w[x1 + k];
+        let c = w[x2 + k];
+        let d = w[x3 + k];
+        let low = least_of(a, b, c, d);
+        let high = keep_sign(parity_of(a, b, c, d), next_of(a, b, c, d));
+        w[m + k] = low;
+        w[n + k] = high;
+        k += 1;
+    }
+}
+
+// The two least sizes and the parity of the signs over the places c, c + d + 1, .. of a list, from what folding its quarters left at m.
+fn gather_folded(w: &[i32], m: usize, q: usize, d: usize, c: usize) -> Gathered
+    requires { ⌜ (d ≤ 1) × (c ≤ d) × (q % (d + 1) ≡ 0) × (m + q + q ≤ length (now w)) ⌝ }
+    requires { ⌜ ((k : ℕ) → k < q → negative (word (now w) (m + k)) ≡ false) ⌝ }
+    ensures { λ r. ⌜ ((l : List ℤ) → length l ≡ 4 * q → Holds (now (w .entry)) m q (lowAt l q) → Holds (now (w .entry)) (m + q) q (highAt l q) → (r .least ≡ least (strided d c l)) × (r .next ≡ next (strided d c l)) × (r .neg ≡ parity (strided d c l))) ⌝ }
+{
+    let n = m + q;
+    let mut m1 = 2147483647u32;
+    let mut m2 = 2147483647u32;
+    let mut neg = false;
+    let mut i = c;
+    while i < q {
+        let low = w[m + i] as u32;
+        let x = w[n + i];
+        let high = kept_size(x);
+        m2 = min_size(min_size(m2, high), max_size(low, m1));
+        m1 = min_size(low, m1);
         neg = (x < 0) != neg;
         i += d + 1;
     }
@@ -243,8 +345,15 @@ pub fn rep_message(w: &mut [i32], m: usize, x: usize, s: usize)
     subtract(w, m, x, s, t, t);
 }
 
-// The message of an SPC node: box over the other incoming values.
-pub fn spc_message(w: &mut [i32], m: usize, x: usize, s: usize)
+// Whether the list of a node is folded before it is gathered: it is long, and its quarters have an even size.
+fn is_large(s: usize) -> bool
+    ensures { λ r. ⌜ (r ≡ true → s % 8 ≡ 0) ⌝ }
+{
+    if s < 32 { false } else { s % 8 == 0 }
+}
+
+// The message of an SPC node, gathered place by place.
+fn spc_small(w: &mut [i32], m: usize, x: usize, s: usize)
     requires { ⌜ (m + s ≤ x) × (x + s ≤ length (now w)) ⌝ }
     requires { ⌜ Incoming (now w) x s ⌝ }
     ensures { λ _. ⌜ now (w .exit) ≡ stored (now (w .entry)) m s (shortcut SPC s (soft (now (w .entry)) x s)) ⌝ }
@@ -255,6 +364,35 @@ pub fn spc_message(w: &mut [i32], m: usize, x: usize, s: usize)
     let m2 = g.next;
     let neg = g.neg;
     spread(w, m, x, s, m1, m2, neg, m1, m2, neg);
+}
+
+// The message of a large SPC node, gathered from the folded list. The folded list is in the message's own place, and the message is stored over it.
+fn spc_large(w: &mut [i32], m: usize, x: usize, s: usize)
+    requires { ⌜ (m + s ≤ x) × (x + s ≤ length (now w)) ⌝ }
+    requires { ⌜ Incoming (now w) x s ⌝ }
+    requires { ⌜ s % 8 ≡ 0 ⌝ }
+    ensures { λ _. ⌜ now (w .exit) ≡ stored (now (w .entry)) m s (shortcut SPC s (soft (now (w .entry)) x s)) ⌝ }
+{
+    let q = s / 4;
+    fold(w, m, x, q);
+    let g = gather_folded(&w[..], m, q, 0, 0);
+    let low = g.least;
+    let next = g.next;
+    let neg = g.neg;
+    spread(w, m, x, s, low, next, neg, low, next, neg);
+}
+
+// The message of an SPC node: box over the other incoming values.
+pub fn spc_message(w: &mut [i32], m: usize, x: usize, s: usize)
+    requires { ⌜ (m + s ≤ x) × (x + s ≤ length (now w)) ⌝ }
+    requires { ⌜ Incoming (now w) x s ⌝ }
+    ensures { λ _. ⌜ now (w .exit) ≡ stored (now (w .entry)) m s (shortcut SPC s (soft (now (w .entry)) x s)) ⌝ }
+{
+    if is_large(s) {
+        spc_large(w, m, x, s);
+    } else {
+        spc_small(w, m, x, s);
+    }
 }
 
 // The message of a type I node: REP over even and over odd places.
@@ -269,8 +407,8 @@ pub fn type_one_message(w: &mut [i32], m: usize, x: usize, s: usize)
     subtract(w, m, x, s, a, b);
 }
 
-// The message of a type III node: SPC over even and over odd places.
-pub fn type_three_message(w: &mut [i32], m: usize, x: usize, s: usize)
+// The message of a type III node, gathered place by place.
+fn type_three_small(w: &mut [i32], m: usize, x: usize, s: usize)
     requires { ⌜ (m + s ≤ x) × (x + s ≤ length (now w)) ⌝ }
     requires { ⌜ Incoming (now w) x s ⌝ }
     ensures { λ _. ⌜ now (w .exit) ≡ stored (now (w .entry)) m s (shortcut type-III s (soft (now (w .entry)) x s)) ⌝ }
@@ -285,4 +423,37 @@ pub fn type_three_message(w: &mut [i32], m: usize, x: usize, s: usize)
     let b2 = b.next;
     let bn = b.neg;
     spread(w, m, x, s, a1, a2, an, b1, b2, bn);
+}
+
+// The message of a large type III node, gathered from the folded list, which is in the message's own place.
+fn type_three_large(w: &mut [i32], m: usize, x: usize, s: usize)
+    requires { ⌜ (m + s ≤ x) × (x + s ≤ length (now w)) ⌝ }
+    requires { ⌜ Incoming (now w) x s ⌝ }
+    requires { ⌜ s % 8 ≡ 0 ⌝ }
+    ensures { λ _. ⌜ now (w .exit) ≡ stored (now (w .entry)) m s (shortcut type-III s (soft (now (w .entry)) x s)) ⌝ }
+{
+    let q = s / 4;
+    fold(w, m, x, q);
+    let even = gather_folded(&w[..], m, q, 1, 0);
+    let odd = gather_folded(&w[..], m, q, 1, 1);
+    let low = even.least;
+    let next = even.next;
+    let neg = even.neg;
+    let odd_low = odd.least;
+    let odd_next = odd.next;
+    let odd_neg = odd.neg;
+    spread(w, m, x, s, low, next, neg, odd_low, odd_next, odd_neg);
+}
+
+// The message of a type III node: SPC over even and over odd places.
+pub fn type_three_message(w: &mut [i32], m: usize, x: usize, s: usize)
+    requires { ⌜ (m + s ≤ x) × (x + s ≤ length (now w)) ⌝ }
+    requires { ⌜ Incoming (now w) x s ⌝ }
+    ensures { λ _. ⌜ now (w .exit) ≡ stored (now (w .entry)) m s (shortcut type-III s (soft (now (w .entry)) x s)) ⌝ }
+{
+    if is_large(s) {
+        type_three_large(w, m, x, s);
+    } else {
+        type_three_small(w, m, x, s);
+    }
 }

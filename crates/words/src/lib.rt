@@ -7,13 +7,15 @@ ghost use lib.Signed.{ltZ};
 ghost use lib.ListN.{length};
 ghost use Rattle.words.specs.Words.{boxWord, addWord, Word, Added, word, write, four, Finite};
 
-fn min_word(a: i32, b: i32) -> i32
+// The smaller of two words.
+pub fn min_word(a: i32, b: i32) -> i32
     ensures { λ r. ⌜ r ≡ cond (ltZ a b) a b ⌝ }
 {
     if a < b { a } else { b }
 }
 
-fn max_word(a: i32, b: i32) -> i32
+// The larger of two words.
+pub fn max_word(a: i32, b: i32) -> i32
     ensures { λ r. ⌜ r ≡ cond (ltZ a b) b a ⌝ }
 {
     if a < b { b } else { a }

@@ -1,0 +1,92 @@
+-- `messages::type_three_large` meets its contract: what is gathered from the folded quarter gives the box of the others of a class, and the message is stored over it. Assumes nothing.
+use mathlib.Core.Path.{_≡_, ap, _∙_}
+use mathlib.Core.Bool.{cond}
+use Prim.Native.Nat.{ℕ, _+_}
+use native.Mathlib.Omega.{arith}
+use Rattle.words.specs.Words.{word, write}
+use Rattle.messages.specs.Sums.{isOdd, leaveOut, strided, least, next, parity}
+use Rattle.messages.proofs.Classes.{least-mark, next-mark}
+use Rattle.messages.proofs.Messages.{partOf, words-in, three-value}
+use Rattle.messages.proofs.Folded.{Scratch, quarter-even, folded-length, folded-fits, list-kept, words-kept, message-over, part-four, low-holds, high-holds, low-sizes}
+use borrow.Author.Needs.{needs}
+use Rattle.messages.proofs.type_three_large.Statement.{statement}
+use Rattle.messages.proofs.type_three_large.Tie as tie
+
+fold-requires : tie.Need-fold-requires
+fold-requires c κs =
+    let s = c .before in
+    let a = s .args in
+    let m = s .pre .1 .1 in
+    ((omega arith, omega arith), λ k lt. words-in (a .w .now) (a .x) (a .s) (s .pre .0 .1) (s .pre .1 .0) k (omega arith))
+
+scratch : (c : tie.After-fold) → let a = c .before .before .args in Scratch (a .w .now) (c .fold .last .0) (a .m) (a .x) (a .s)
+scratch c = let p = c .before .before .pre in record { apart = p .0 .0; fit = p .0 .1; eighths = p .1 .1; stores = c .fold .ensures }
+
+gather-folded-requires : tie.Need-gather-folded-requires
+gather-folded-requires c κs =
+    let h = scratch (c .before .before) in
+    ((omega arith, omega arith, quarter-even h, folded-fits h), low-sizes h)
+
+gather-folded-requires-2 : tie.Need-gather-folded-requires-2
+gather-folded-requires-2 c κs =
+    let h = scratch (c .before .before .before .before) in
+    ((omega arith, omega arith, quarter-even h, folded-fits h), low-sizes h)
+
+-- what was gathered is that of the list
+even-is : (c : tie.After-gather-folded)
+    → let a = c .before .before .before .before .before .args in let l = strided 1 0 (partOf (a .w .now) (a .x) (a .s)) in (c .gather-folded .result .least ≡ least l) × (c .gather-folded .result .next ≡ next l) × (c .gather-folded .result .neg ≡ parity l)
+even-is c =
+    let a = c .before .before .before .before .before .args in
+    let h = scratch (c .before .before .before) in
+    c .gather-folded .ensures (partOf (a .w .now) (a .x) (a .s)) (part-four h) (low-holds h) (high-holds h)
+
+odd-is : (c : tie.After-gather-folded2)
+    → let a = c .before .before .before .before .before .before .before .args in let l = strided 1 1 (partOf (a .w .now) (a .x) (a .s)) in (c .gather-folded2 .result .least ≡ least l) × (c .gather-folded2 .result .next ≡ next l) × (c .gather-folded2 .result .neg ≡ parity l)
+odd-is c =
+    let a = c .before .before .before .before .before .before .before .args in
+    let h = scratch (c .before .before .before .before .before) in
+    c .gather-folded2 .ensures (partOf (a .w .now) (a .x) (a .s)) (part-four h) (low-holds h) (high-holds h)
+
+spread-requires : tie.Need-spread-requires
+spread-requires c κs =
+    let s = c .before .before .before .before .before .before .before .before in
+    let a = s .args in
+    let h = scratch (c .before .before .before .before .before .before) in
+    let g = even-is (c .before .before .before) in
+    let o = odd-is (c .before) in
+    let l = partOf (a .w .now) (a .x) (a .s) in (
+      (s .pre .0 .0, omega (arith, folded-length h)),
+      (
+        words-kept h (words-in (a .w .now) (a .x) (a .s) (s .pre .0 .1) (s .pre .1 .0)),
+        (rw (g .0) (least-mark (strided 1 0 l)), rw (g .1) (next-mark (strided 1 0 l)), rw (o .0) (least-mark (strided 1 1 l)), rw (o .1) (next-mark (strided 1 1 l))),
+      ),
+    )
+
+same-length : tie.Need-same-length
+same-length c = search needs
+
+returns : tie.Need-returns
+returns c =
+    let s = c .before .before .before .before .before .before .before .before .before .before in
+    let a = s .args in
+    let v = c .before .before .before .before .before .before .before .before .fold .last .0 in
+    let h = scratch (c .before .before .before .before .before .before .before .before) in
+    let g = even-is (c .before .before .before .before .before) in
+    let o = odd-is (c .before .before .before) in
+    let l = partOf (a .w .now) (a .x) (a .s) in
+    c .before .spread .ensures
+    ∙ (λ i. write v (a .m) (a .s) (λ (k : ℕ). leaveOut (cond (isOdd k) (o .0 i) (g .0 i)) (cond (isOdd k) (o .1 i) (g .1 i)) (cond (isOdd k) (o .2 i) (g .2 i)) (word v (a .x + k))))
+    ∙ message-over h _ _
+    (λ k lt. ap (leaveOut (cond (isOdd k) (least (strided 1 1 l)) (least (strided 1 0 l))) (cond (isOdd k) (next (strided 1 1 l)) (next (strided 1 0 l))) (cond (isOdd k) (parity (strided 1 1 l)) (parity (strided 1 0 l)))) (list-kept h k)
+    ∙ three-value (a .w .now) (a .x) (a .s) (s .pre .0 .1) (s .pre .1 .0) k lt)
+
+pub type-three-large-spec : {M : Type 1} → statement M
+type-three-large-spec =
+    tie.close
+    (tie.spec
+    fold-requires
+    gather-folded-requires
+    gather-folded-requires-2
+    spread-requires
+    same-length
+    returns)
