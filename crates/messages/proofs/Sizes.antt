@@ -46,13 +46,13 @@ module _ (a b c d : ℤ) (hd : Word d) where
   last : min (natAbs d) mark ≡ natAbs d
   last = omega arith
 
-  pub four-least : min (min (natAbs a) (natAbs b)) (min (natAbs c) (natAbs d)) ≡ least (fourList a b c d)
+  pub least-of-four : min (min (natAbs a) (natAbs b)) (min (natAbs c) (natAbs d)) ≡ least (fourList a b c d)
   unfolding least
-  four-least = rw last (omega arith)
+  least-of-four = rw last (omega arith)
 
-  pub four-next : Word c → min (max (min (natAbs a) (natAbs b)) (min (natAbs c) (natAbs d))) (min (max (natAbs a) (natAbs b)) (max (natAbs c) (natAbs d))) ≡ next (fourList a b c d)
+  pub next-of-four : Word c → min (max (min (natAbs a) (natAbs b)) (min (natAbs c) (natAbs d))) (min (max (natAbs a) (natAbs b)) (max (natAbs c) (natAbs d))) ≡ next (fourList a b c d)
   unfolding least next
-  four-next hc =
+  next-of-four hc =
       let e : min (min mark (max (natAbs d) mark)) (max (natAbs c) (natAbs d)) ≡ max (natAbs c) (natAbs d) = omega arith in
       rw (last, e)
       (regroup (max (min (natAbs a) (natAbs b)) (min (natAbs c) (natAbs d))) (max (natAbs a) (natAbs b)) (max (natAbs c) (natAbs d))
@@ -65,9 +65,9 @@ module _ (a b c d : ℤ) (hd : Word d) where
       min-assoc : (r x y : ℕ) → min (min r x) y ≡ min r (min x y)
       min-assoc r x y = omega arith
 
-pub four-parity : (a b c d : ℤ) → xor (xor (negative a) (negative b)) (xor (negative c) (negative d)) ≡ parity (fourList a b c d)
+pub parity-of-four : (a b c d : ℤ) → xor (xor (negative a) (negative b)) (xor (negative c) (negative d)) ≡ parity (fourList a b c d)
 unfolding parity
-four-parity a b c d =
+parity-of-four a b c d =
     xor-assoc (negative a) (negative b) (xor (negative c) (negative d))
     ∙ ap (λ (t : Bool). xor (negative a) (xor (negative b) (xor (negative c) t))) (sym (xor-false (negative d)))
 

@@ -3,7 +3,7 @@ use mathlib.Core.Path.{ap, _∙_}
 use lib.IntN.{ℤ, pos, natAbs}
 use mir.Facts.{toZ-ofZ}
 use Rattle.words.proofs.Signed.{back}
-use Rattle.messages.proofs.Sizes.{min-is, four-least}
+use Rattle.messages.proofs.Sizes.{min-is, least-of-four}
 use borrow.Author.Needs.{needs}
 use Rattle.messages.proofs.least_of.Statement.{statement}
 use Rattle.messages.proofs.least_of.Tie as tie
@@ -38,7 +38,7 @@ returns c =
     let sd = back (c .before .before .abs-word4 .ok) ∙ c .before .before .abs-word4 .ensures ∙ ap (λ (z : ℤ). pos (natAbs z)) (toZ-ofZ (s .fits .d)) in
     let low = back (c .before .before .before .before .min-word .ok) ∙ c .before .before .before .before .min-word .ensures ∙ min-is sa sb in
     let low2 = back (c .before .min-word2 .ok) ∙ c .before .min-word2 .ensures ∙ min-is sc sd in
-    back (c .min-word3 .ok) ∙ c .min-word3 .ensures ∙ min-is low low2 ∙ ap pos (four-least (s .args .a) (s .args .b) (s .args .c) (s .args .d) (s .pre .3))
+    back (c .min-word3 .ok) ∙ c .min-word3 .ensures ∙ min-is low low2 ∙ ap pos (least-of-four (s .args .a) (s .args .b) (s .args .c) (s .args .d) (s .pre .3))
 
 pub least-of-spec : {M : Type 1} → statement M
 least-of-spec =

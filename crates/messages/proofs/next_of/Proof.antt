@@ -3,7 +3,7 @@ use mathlib.Core.Path.{ap, _∙_}
 use lib.IntN.{ℤ, pos, natAbs}
 use mir.Facts.{toZ-ofZ}
 use Rattle.words.proofs.Signed.{back}
-use Rattle.messages.proofs.Sizes.{min-is, max-is, four-next}
+use Rattle.messages.proofs.Sizes.{min-is, max-is, next-of-four}
 use borrow.Author.Needs.{needs}
 use Rattle.messages.proofs.next_of.Statement.{statement}
 use Rattle.messages.proofs.next_of.Tie as tie
@@ -54,7 +54,7 @@ returns c =
     let high = back (c .before .before .before .max-word2 .ok) ∙ c .before .before .before .max-word2 .ensures ∙ max-is sa sb in
     let high2 = back (c .before .before .max-word3 .ok) ∙ c .before .before .max-word3 .ensures ∙ max-is sc sd in
     let highs = back (c .before .min-word3 .ok) ∙ c .before .min-word3 .ensures ∙ min-is high high2 in
-    back (c .min-word4 .ok) ∙ c .min-word4 .ensures ∙ min-is lows highs ∙ ap pos (four-next (s .args .a) (s .args .b) (s .args .c) (s .args .d) (s .pre .3) (s .pre .2))
+    back (c .min-word4 .ok) ∙ c .min-word4 .ensures ∙ min-is lows highs ∙ ap pos (next-of-four (s .args .a) (s .args .b) (s .args .c) (s .args .d) (s .pre .3) (s .pre .2))
 
 pub next-of-spec : {M : Type 1} → statement M
 next-of-spec =
