@@ -1,17 +1,20 @@
 // What is read off the soft values: hard bits, payload and frozen check.
+use encode::transform;
 use inputs::larger;
 use words::add_words;
 ghost use mathlib.Core.Path.{_≡_};
 ghost use mathlib.Core.Bool.{cond};
 ghost use Prim.Native.Nat.{ℕ, _≤_, _<_};
-ghost use lib.ListN.{length};
+ghost use lib.ListN.{length, take};
 ghost use Rattle.model.specs.Lists.{bit, over};
 ghost use Rattle.model.specs.Encoding.{isUnfrozen, unfrozen, payloadOf, frozenZero};
+ghost use Rattle.model.specs.Encoding as encoding;
+ghost use Rattle.model.specs.Refusals.{exponent};
 ghost use Rattle.words.specs.Words.{word, write, Added};
-ghost use Rattle.decisions.specs.Bits.{decisionAt};
+ghost use Rattle.decisions.specs.Bits.{decisionAt, wordDecisions, Sized, Readable};
 
 // The hard bits: 1 exactly if LLR plus soft is negative.
-pub fn decide(llrs: &[i16], soft: &[i32], hard: &mut [u8], n: usize)
+fn decide(llrs: &[i16], soft: &[i32], hard: &mut [u8], n: usize)
     requires { ⌜ (n ≤ length (now llrs)) × (n ≤ length (now soft)) × (n ≤ length (now hard)) ⌝ }
     requires { ⌜ ((k : ℕ) → k < n → Added (word (now llrs) k) (word (now soft) k)) ⌝ }
     ensures { λ _. ⌜ now (hard .exit) ≡ write (now (hard .entry)) 0 n (decisionAt (now (llrs .entry)) (now (soft .entry))) ⌝ }
@@ -27,7 +30,7 @@ pub fn decide(llrs: &[i16], soft: &[i32], hard: &mut [u8], n: usize)
 }
 
 // The unfrozen bits of u, to the front of payload.
-pub fn read_payload(mask: &[u8], u: &[u8], payload: &mut [u8])
+fn read_payload(mask: &[u8], u: &[u8], payload: &mut [u8])
     requires { ⌜ (length (now mask) ≤ length (now u)) × (unfrozen (now mask) ≤ length (now payload)) ⌝ }
     ensures { λ _. ⌜ now (payload .exit) ≡ over (payloadOf (now (mask .entry)) (now (u .entry))) (now (payload .entry)) ⌝ }
 {
@@ -50,7 +53,7 @@ fn frozen_bit(byte: u8, b: u8) -> u8
 }
 
 // 1 exactly if the frozen bits of u are all 0.
-pub fn frozen_check(mask: &[u8], u: &[u8]) -> u8
+fn frozen_check(mask: &[u8], u: &[u8]) -> u8
     requires { ⌜ length (now mask) ≤ length (now u) ⌝ }
     ensures { λ r. ⌜ r ≡ bit (frozenZero (now (mask .entry)) (now (u .entry))) ⌝ }
 {
@@ -61,4 +64,46 @@ pub fn frozen_check(mask: &[u8], u: &[u8]) -> u8
         i += 1;
     }
     (most == 0) as u8
+}
+
+// The first n bytes of `from` to the front of `to`.
+fn copy_bytes(from: &[u8], to: &mut [u8], n: usize)
+    requires { ⌜ (n ≤ length (now from)) × (n ≤ length (now to)) ⌝ }
+    ensures { λ _. ⌜ now (to .exit) ≡ over (take n (now (from .entry))) (now (to .entry)) ⌝ }
+{
+    let mut i = 0;
+    while i < n {
+        to[i] = from[i];
+        i += 1;
+    }
+}
+
+// The decoded u, to the front of u: the transform of the hard word of n bits.
+fn decoded_bits(hard: &[u8], u: &mut [u8], n: usize)
+    requires { ⌜ Sized n (length (now hard)) (length (now u)) ⌝ }
+    ensures { λ _. ⌜ now (u .exit) ≡ over (encoding.transform (exponent n) (take n (now (hard .entry)))) (now (u .entry)) ⌝ }
+{
+    copy_bytes(hard, u, n);
+    transform(&mut u[..n]);
+}
+
+// Hard bits and payload from the soft values' words; answers the frozen check.
+pub fn read_off(
+    mask: &[u8],
+    llrs: &[i16],
+    soft: &[i32],
+    hard: &mut [u8],
+    payload: &mut [u8],
+    n: usize,
+) -> u8
+    requires { ⌜ Readable (now mask) (now llrs) (now soft) n (length (now hard)) (length (now payload)) ⌝ }
+    ensures { λ r. ⌜ r ≡ bit (frozenZero (now (mask .entry)) (encoding.transform (exponent n) (wordDecisions (now (llrs .entry)) (now (soft .entry)) n))) ⌝ }
+    ensures { λ _. ⌜ now (hard .exit) ≡ over (wordDecisions (now (llrs .entry)) (now (soft .entry)) n) (now (hard .entry)) ⌝ }
+    ensures { λ _. ⌜ now (payload .exit) ≡ over (payloadOf (now (mask .entry)) (encoding.transform (exponent n) (wordDecisions (now (llrs .entry)) (now (soft .entry)) n))) (now (payload .entry)) ⌝ }
+{
+    decide(llrs, soft, hard, n);
+    let mut u = [0u8; 1024];
+    decoded_bits(hard, &mut u, n);
+    read_payload(mask, &u, payload);
+    frozen_check(mask, &u)
 }

@@ -3,10 +3,10 @@ use mathlib.Core.Path.{_≡_, refl, sym, _∙_, ap, ap₂, subst}
 use mathlib.Core.Bool.{Bool, true, false, cond}
 use mathlib.Core.List.{List, [], _∷_, _++_, map}
 use Prim.Native.Nat.{ℕ, zero, suc, _+_, _*_, _^_, _<_, _≤_}
-use native.Mathlib.Nat.{zero-add}
+use native.Mathlib.Nat.{zero-add, mul-le-mul}
 use native.Mathlib.Omega.{arith}
 use borrow.Author.Tests.{eq-eqb, ne-eqb, leb-true}
-use lib.Dec.{T, eqb, leb, eqb·suc-zero}
+use lib.Dec.{eqb, leb}
 use lib.IntN.{ℤ, pos, natAbs}
 use lib.ListN.{length, getD, replicate, List·getD-map, length-append}
 use Rattle.model.specs.Lists.{tabulate, over, bit}
@@ -15,33 +15,20 @@ use lib.Pow.{pow-mono}
 use Rattle.model.specs.Encoding.{unfrozen, transform, payloadOf, frozenZero}
 use Rattle.model.specs.Scan.{Tree, message, start, toNode, visit, sweeps, scan, hardBit, hardWord, decided, decodeScan}
 use Rattle.model.specs.Bounds.{Small, Under, limit}
-use Rattle.model.specs.Refusals.{Test, test, refusal, row-1, row-2, row-3, row-4, row-5, row-6, row-7, row-11, row-12, exponent, DecodeCall, decodeNumber, decodeAnswer, decodeCycles, decodeCheck, decodeSoft, decodeHard, decodePayload, decodeWork}
+use Rattle.model.specs.Refusals.{refusal, row-1, row-2, row-3, row-4, row-5, row-6, row-7, row-11, row-12, exponent, DecodeCall, decodeNumber, decodeAnswer, decodeCycles, decodeCheck, decodeSoft, decodeHard, decodePayload, decodeWork}
 use Rattle.model.proofs.Lists.{length-tabulate, tabulate-ext, double}
 use Rattle.model.proofs.Bounds.{soft-under, cap-limit, under-mono}
-use Rattle.model.proofs.Refusals.{passes, llrs-small}
+use Rattle.model.proofs.Refusals.{refusal-then, passes, llrs-small}
 use Rattle.model.proofs.Theorems.{decision-bound, cycles-most}
 use Rattle.words.specs.Words.{word, softOf, write, stored, addWord, Added}
 use Rattle.words.proofs.Laws.{soft-fin, soft-word, word-in}
 use Rattle.words.proofs.Store.{write-in, length-write}
 use Rattle.scan.specs.Space.{Decodable}
-use Rattle.decisions.specs.Bits.{decisionAt}
+use Rattle.decisions.specs.Bits.{decisionAt, wordDecisions, Readable}
+use Rattle.decisions.proofs.Reading.{write-front}
 use Rattle.decode.specs.Calls.{callOf, Answered, Written}
-use Rattle.decode.specs.Steps.{inputNumber, Passed, Readable, wordDecisions}
-use Rattle.decode.proofs.Bits.{write-front}
+use Rattle.decode.specs.Steps.{inputNumber, Passed}
 use Rattle.model.specs.Plans as plans
-
--- ---- tests one list after the other
-abbrev Numbered : List Test → Type 0
-Numbered [] = Unit {0}
-Numbered (test zero b ∷ ts) = ⊥
-Numbered (test (suc n) b ∷ ts) = Numbered ts
-
-refusal-then : (ts us : List Test) → Numbered ts → refusal (ts ++ us) ≡ cond (eqb (refusal ts) 0) (refusal us) (refusal ts)
-unfolding refusal
-refusal-then [] us n = refl
-refusal-then (test zero b ∷ ts) us n = absurd n
-refusal-then (test (suc k) true ∷ ts) us n = refusal-then ts us n
-refusal-then (test (suc k) false ∷ ts) us n = rw (eqb·suc-zero k)
 
 -- ---- lengths
 length-toNode : (h : ℕ) (L l r : List Soft) → length (toNode h L l r) ≡ h + h
@@ -96,7 +83,7 @@ module _ (mask plan : List ℕ) (k : ℕ) (llrs soft : List ℤ) (hard payload :
   n = exponent (length mask)
 
   -- the tests of room
-  abbrev roomNumber : ℕ
+  abbrev pub roomNumber : ℕ
   roomNumber = refusal (row-11 N (length soft) ∷ row-11 N (length hard) ∷ row-11 (unfrozen mask) (length payload) ∷ row-12 (N * (n + 3)) (length work) ∷ [])
 
   number-split : decodeNumber call ≡ cond (eqb (inputNumber mask plan k llrs) 0) roomNumber (inputNumber mask plan k llrs)
@@ -271,6 +258,14 @@ module _ (mask plan : List ℕ) (k : ℕ) (llrs soft : List ℤ) (hard payload :
                 ∙ write-front (pos 0) work (N * (n + 3)) (λ i. pos 0) work-room
                 ∙ ap (λ (l : List ℤ). over l work) (same-places (N * (n + 3))) ∙ sym (rw accept);
           }
+
+-- N(n + 3) words can be counted
+pub words-fit : {mask plan : List ℕ} {k : ℕ} {llrs : List ℤ} {cycles t : ℕ} → Passed mask plan k llrs cycles t → (t + 3 ≤ 13) × (length mask * (t + 3) ≤ 1024 * 13)
+words-fit {mask} {t = t} p =
+    let m : 2 ^ t ≤ 1024 = pow-mono (p .low) in
+    let few : length mask ≤ 1024 = omega (arith, p .sized) in
+    let low : t + 3 ≤ 13 = omega (arith, p .low) in
+    (low, mul-le-mul few low)
 
 pub mask-few : {mask plan : List ℕ} {k : ℕ} {llrs : List ℤ} {cycles t : ℕ} → Passed mask plan k llrs cycles t → length mask ≤ 1024
 mask-few p = let m : 2 ^ _ ≤ 1024 = pow-mono (p .low) in omega (arith, p .sized)

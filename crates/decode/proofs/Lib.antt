@@ -1,4 +1,3 @@
-pub mod Lists
+pub mod Ranges
 pub mod Tests
-pub mod Bits
 pub mod Answers

@@ -5,12 +5,8 @@ use Prim.Native.Nat.{ℕ, _^_, _≤_, _<_}
 use lib.Dec.{T}
 use lib.IntN.{ℤ}
 use lib.ListN.{length}
-use Rattle.model.specs.Lists.{tabulate}
-use Rattle.model.specs.Encoding.{unfrozen}
 use Rattle.model.specs.Plans.{Allowed}
 use Rattle.model.specs.Refusals.{refusal, row-1, row-2, row-3, row-4, row-5, row-6, row-7, exponent, maxSweeps, llrsInRange}
-use Rattle.words.specs.Words.{word, Added}
-use Rattle.decisions.specs.Bits.{decisionAt}
 use Rattle.model.specs.Plans as plans
 
 -- ---- the tests of the inputs, 1 to 7
@@ -36,25 +32,3 @@ pub record Passed (mask plan : List ℕ) (sweeps : ℕ) (llrs : List ℤ) (cycle
 pub record InputTests (mask plan : List ℕ) (sweeps : ℕ) (llrs : List ℤ) (number cycles stage : ℕ) : Type 0 where
   pub number-is : number ≡ inputNumber mask plan sweeps llrs
   pub passed : number ≡ 0 → Passed mask plan sweeps llrs cycles stage
-
--- ---- what is read off the soft values' words
-
--- the hard word from LLRs and words
-abbrev pub wordDecisions : List ℤ → List ℤ → ℕ → List ℕ
-wordDecisions llrs soft n = tabulate n (decisionAt llrs soft)
-
--- room for a word of n bits
-pub record Sized (n from to : ℕ) : Type 0 where
-  pub length-allowed : exponent n ≡ 0 → ⊥
-  pub from-room : n ≤ from
-  pub to-room : n ≤ to
-
-pub record Readable (mask : List ℕ) (llrs soft : List ℤ) (n hard payload : ℕ) : Type 0 where
-  pub length-allowed : exponent n ≡ 0 → ⊥
-  pub few : n ≤ 1024
-  pub positions : length mask ≡ n
-  pub values : n ≤ length llrs
-  pub softs : n ≤ length soft
-  pub bits : n ≤ hard
-  pub payload-room : unfrozen mask ≤ payload
-  pub sums : (k : ℕ) → k < n → Added (word llrs k) (word soft k)

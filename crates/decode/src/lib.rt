@@ -1,27 +1,22 @@
 // The decoder: the tests of a call, SCAN's soft values by the plan, and what is read off them.
-use decisions::decide;
-use decisions::frozen_check;
-use decisions::read_payload;
-use encode::transform;
+use decisions::read_off;
 use inputs::both;
 use inputs::exponent_of;
 use inputs::mask_bytes;
+use inputs::tested;
 use inputs::unfrozen_of;
 use plans::fault_of;
 use scan::soft_values;
+use words::fill;
 ghost use mathlib.Core.Path.{_≡_};
-ghost use mathlib.Core.Bool.{_&&_};
+ghost use mathlib.Core.Bool.{not, _&&_};
 ghost use mathlib.Core.List.{[], _∷_};
-ghost use Prim.Native.Nat.{_+_, _*_, _≤_};
-ghost use lib.Dec.{leb};
+ghost use lib.Dec.{eqb, leb};
 ghost use lib.IntN.{natAbs};
-ghost use lib.ListN.{length, take};
-ghost use Rattle.model.specs.Lists.{bit, over};
-ghost use Rattle.model.specs.Encoding.{payloadOf, frozenZero};
-ghost use Rattle.model.specs.Encoding as encoding;
-ghost use Rattle.model.specs.Refusals.{exponent, maxSweeps, llrsInRange, refusal, row-11, row-12};
+ghost use lib.ListN.{length};
+ghost use Rattle.model.specs.Refusals.{maxSweeps, llrsInRange, refusal, test, row-2, row-3, row-4, row-11, row-12};
 ghost use Rattle.decode.specs.Calls.{callOf, Answered, Written};
-ghost use Rattle.decode.specs.Steps.{InputTests, Sized, Readable, wordDecisions};
+ghost use Rattle.decode.specs.Steps.{InputTests};
 
 // What a decode answers: the number, and for an accepted call the cycles and the frozen check.
 pub struct Decoded {
@@ -90,22 +85,25 @@ fn refused(number: u32) -> Tested
     }
 }
 
+// Tests 1 to 4; t is the exponent of N, 0 where N is not allowed.
+fn first_tests(t: usize, mask: &[u8], llrs: &[i16], sweeps: usize) -> u32
+    ensures { λ r. ⌜ r ≡ refusal (test 1 (not (eqb t 0)) ∷ row-2 (now (mask .entry)) ∷ row-3 (length (now (llrs .entry))) (length (now (mask .entry))) ∷ row-4 sweeps ∷ []) ⌝ }
+{
+    let bytes = mask_bytes(mask);
+    let counted = llrs.len() == mask.len();
+    let fourth = tested(sweeps_fit(sweeps), 0, 4);
+    let second = tested(bytes, tested(counted, fourth, 3), 2);
+    tested(t != 0, second, 1)
+}
+
 // Tests 1 to 7.
 fn input_tests(mask: &[u8], plan: &[u8], sweeps: usize, llrs: &[i16]) -> Tested
     ensures { λ r. ⌜ InputTests (now (mask .entry)) (now (plan .entry)) sweeps (now (llrs .entry)) (r .number) (r .cycles) (r .stage) ⌝ }
 {
     let t = exponent_of(mask.len());
-    if t == 0 {
-        return refused(1);
-    }
-    if !mask_bytes(mask) {
-        return refused(2);
-    }
-    if llrs.len() != mask.len() {
-        return refused(3);
-    }
-    if !sweeps_fit(sweeps) {
-        return refused(4);
+    let first = first_tests(t, mask, llrs, sweeps);
+    if first != 0 {
+        return refused(first);
     }
     let plan_test = fault_of(mask, plan, t);
     if plan_test.number != 0 {
@@ -121,74 +119,22 @@ fn input_tests(mask: &[u8], plan: &[u8], sweeps: usize, llrs: &[i16]) -> Tested
     }
 }
 
-// Tests 11 and 12, for N, K and n.
+// Tests 11 and 12, for N and K.
 fn room_tests(
     n: usize,
     k: usize,
-    t: usize,
+    words: usize,
     soft: usize,
     hard: usize,
     payload: usize,
-    words: usize,
+    work: usize,
 ) -> u32
-    requires { ⌜ (n ≤ 1024) × (t ≤ 10) ⌝ }
-    ensures { λ r. ⌜ r ≡ refusal (row-11 n soft ∷ row-11 n hard ∷ row-11 k payload ∷ row-12 (n * (t + 3)) words ∷ []) ⌝ }
+    ensures { λ r. ⌜ r ≡ refusal (row-11 n soft ∷ row-11 n hard ∷ row-11 k payload ∷ row-12 words work ∷ []) ⌝ }
 {
-    if soft < n {
-        return 11;
-    }
-    if hard < n {
-        return 11;
-    }
-    if payload < k {
-        return 11;
-    }
-    if words < n * (t + 3) {
-        return 12;
-    }
-    0
-}
-
-// The first n bytes of `from` to the front of `to`.
-fn copy_bytes(from: &[u8], to: &mut [u8], n: usize)
-    requires { ⌜ (n ≤ length (now from)) × (n ≤ length (now to)) ⌝ }
-    ensures { λ _. ⌜ now (to .exit) ≡ over (take n (now (from .entry))) (now (to .entry)) ⌝ }
-{
-    let mut i = 0;
-    while i < n {
-        to[i] = from[i];
-        i += 1;
-    }
-}
-
-// The decoded u, to the front of u: the transform of the hard word of n bits.
-fn decoded_bits(hard: &[u8], u: &mut [u8], n: usize)
-    requires { ⌜ Sized n (length (now hard)) (length (now u)) ⌝ }
-    ensures { λ _. ⌜ now (u .exit) ≡ over (encoding.transform (exponent n) (take n (now (hard .entry)))) (now (u .entry)) ⌝ }
-{
-    copy_bytes(hard, u, n);
-    transform(&mut u[..n]);
-}
-
-// Hard bits and payload from the soft values' words; answers the frozen check.
-fn read_off(
-    mask: &[u8],
-    llrs: &[i16],
-    soft: &[i32],
-    hard: &mut [u8],
-    payload: &mut [u8],
-    n: usize,
-) -> u8
-    requires { ⌜ Readable (now mask) (now llrs) (now soft) n (length (now hard)) (length (now payload)) ⌝ }
-    ensures { λ r. ⌜ r ≡ bit (frozenZero (now (mask .entry)) (encoding.transform (exponent n) (wordDecisions (now (llrs .entry)) (now (soft .entry)) n))) ⌝ }
-    ensures { λ _. ⌜ now (hard .exit) ≡ over (wordDecisions (now (llrs .entry)) (now (soft .entry)) n) (now (hard .entry)) ⌝ }
-    ensures { λ _. ⌜ now (payload .exit) ≡ over (payloadOf (now (mask .entry)) (encoding.transform (exponent n) (wordDecisions (now (llrs .entry)) (now (soft .entry)) n))) (now (payload .entry)) ⌝ }
-{
-    decide(llrs, soft, hard, n);
-    let mut u = [0u8; 1024];
-    decoded_bits(hard, &mut u, n);
-    read_payload(mask, &u, payload);
-    frozen_check(mask, &u)
+    let last = tested(words <= work, 0, 12);
+    let third = tested(k <= payload, last, 11);
+    let second = tested(n <= hard, third, 11);
+    tested(n <= soft, second, 11)
 }
 
 // Decodes LLRs along an allowed plan. The answer is that of SCAN walked to the last leaf, whichever allowed plan it is given.
@@ -211,12 +157,22 @@ pub fn decode(
     }
     let n = mask.len();
     let t = input.stage;
+    let words = n * (t + 3);
     let k = unfrozen_of(mask);
-    let short = room_tests(n, k, t, soft.len(), hard.len(), payload.len(), work.len());
+    let short = room_tests(
+        n,
+        k,
+        words,
+        soft.len(),
+        hard.len(),
+        payload.len(),
+        work.len(),
+    );
     if short != 0 {
         return answer(short, 0, 0);
     }
     soft_values(mask, plan, llrs, sweeps, n, t, soft, work);
+    fill(work, 0, words, 0);
     let check = read_off(mask, llrs, soft, hard, payload, n);
     answer(0, sweeps as u32 * input.cycles, check)
 }

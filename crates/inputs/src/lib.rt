@@ -1,6 +1,6 @@
 // Tests of inputs that several calls share.
 ghost use mathlib.Core.Path.{_≡_};
-ghost use mathlib.Core.Bool.{_&&_};
+ghost use mathlib.Core.Bool.{cond, _&&_};
 ghost use Prim.Native.Nat.{_≤_, max};
 ghost use lib.ListN.{length};
 ghost use Rattle.model.specs.Lists.{atMost, bit};
@@ -79,4 +79,11 @@ pub fn unfrozen_of(mask: &[u8]) -> usize
         i += 1;
     }
     k as usize
+}
+
+// The number of a test that is not passed, and otherwise that of the tests after it.
+pub fn tested(passed: bool, after: u32, number: u32) -> u32
+    ensures { λ r. ⌜ r ≡ cond passed after number ⌝ }
+{
+    if passed { after } else { number }
 }

@@ -12,7 +12,7 @@ use Rattle.model.specs.Scan.{Tree, leaf, node, message, left, right, start, swe
 use Rattle.model.specs.Kinds.{Kind, rate-0, rate-1, kindOf, isKind, shortcut}
 use Rattle.model.specs.Plans.{isCut, isRate01, wellCut, put, walk, Stays, Allowed}
 use Rattle.model.specs.Bounds.{SmallAll, Held, limit}
-use Rattle.words.specs.Words.{word, soft, stored}
+use Rattle.words.specs.Words.{word, soft, write, stored}
 
 -- the tree of the node of stage t whose first position is b: word u * N + i is the message of stage u at position i
 unfoldable pub treeAt : ℕ → List ℤ → ℕ → ℕ → Tree
@@ -98,6 +98,10 @@ pub record Swept (plan mask : List ℕ) (N t : ℕ) (first : Bool) (k : ℕ) (w 
   pub list : (i : ℕ) → i < N → word v (N * (t + 1) + i) ≡ word w (N * (t + 1) + i)
   pub past : (j : ℕ) → N * (t + 3) ≤ j → word v j ≡ word w j
   pub long : length v ≡ length w
+
+-- the workspace with the LLRs as the root's incoming list
+abbrev pub withLlrs : ℕ → ℕ → List ℤ → List ℤ → List ℤ
+withLlrs N t llrs w = write w (N * (t + 1)) (length llrs) (word llrs)
 
 -- ---- a decode's soft values: what the accepted inputs are
 pub record Decodable (plan mask : List ℕ) (llrs : List ℤ) (count N t out words : ℕ) : Type 0 where

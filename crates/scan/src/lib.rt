@@ -34,7 +34,7 @@ ghost use Rattle.model.specs.Plans.{isCut, isRate01};
 ghost use lib.Dec.{T};
 ghost use mathlib.Core.Bool.{true, false, cond, _||_};
 ghost use Rattle.kinds.specs.Runs.{kindNamed};
-ghost use Rattle.scan.specs.Space.{FixedAs, Room, Visited, cutWords, Ready, Swept, Decodable};
+ghost use Rattle.scan.specs.Space.{FixedAs, Room, Visited, cutWords, Ready, Swept, withLlrs, Decodable};
 
 // The message of a cut node, by its kind. A rate-0 or rate-1 node does not look at what it is handed.
 fn cut_message(w: &mut [i32], k: Kind, m: usize, x: usize, s: usize)
@@ -172,7 +172,8 @@ fn visit(
     ensures { λ _. ⌜ Visited (now (plan .entry)) (now (mask .entry)) n t p b x first (now (work .entry)) (now (work .exit)) ⌝ }
 {
     let m = t * n + b;
-    if plan[p] == 1 {
+    let cut = plan[p];
+    if cut == 1 {
         let e = b + s;
         let k = cut_kind(&mask[b..e]);
         cut_message(work, k, m, x, s);
@@ -226,7 +227,7 @@ pub fn sweeps(work: &mut [i32], plan: &[u8], mask: &[u8], n: usize, t: usize, co
     }
 }
 
-// The soft values of SCAN after `count` sweeps, by a plan that is allowed for the mask. The workspace is zero afterwards.
+// The soft values of SCAN after `count` sweeps, by a plan that is allowed for the mask. The workspace holds what the sweeps along that plan left.
 pub fn soft_values(
     mask: &[u8],
     plan: &[u8],
@@ -239,10 +240,9 @@ pub fn soft_values(
 )
     requires { ⌜ Decodable (now plan) (now mask) (now llrs) count n t (length (now out)) (length (now work)) ⌝ }
     ensures { λ _. ⌜ now (out .exit) ≡ stored (now (out .entry)) 0 n (scan t (now (mask .entry)) (map finite (now (llrs .entry))) count) ⌝ }
-    ensures { λ _. ⌜ now (work .exit) ≡ write (now (work .entry)) 0 (n * (t + 3)) (λ k. pos 0) ⌝ }
+    ensures { λ _. ⌜ Swept (now (plan .entry)) (now (mask .entry)) n t true count (withLlrs n t (now (llrs .entry)) (now (work .entry))) (now (work .exit)) ⌝ }
 {
     load_llrs(work, n * (t + 1), llrs);
     sweeps(work, plan, mask, n, t, count);
     copy_words(&work[..], t * n, out, 0, n);
-    fill(work, 0, n * (t + 3), 0);
 }

@@ -8,7 +8,7 @@ use lib.IntN.{ℤ, pos, natAbs}
 use lib.ListN.{length, getD, drop}
 use Rattle.words.proofs.Signed.{back16}
 use Rattle.model.specs.Refusals.{llrsInRange}
-use Rattle.decode.proofs.Lists.{range-more, range-end}
+use Rattle.decode.proofs.Ranges.{range-more, range-end}
 use borrow.Author.Needs.{needs}
 use Rattle.decode.proofs.in_range.Statement.{statement}
 use Rattle.decode.proofs.in_range.Tie as tie

@@ -86,8 +86,8 @@ module _ (t : ℕ) where
       let a = start .args in
       let room = start .pre .1 in omega arith
 
-  visit-shared-slice-read-if1 : visit-lts.Need-shared-slice-read-if1 (around t) (visit-at t) visit.Post
-  visit-shared-slice-read-if1 c =
+  visit-shared-slice-read-cut : visit-lts.Need-shared-slice-read-cut (around t) (visit-at t) visit.Post
+  visit-shared-slice-read-cut c =
       let start = c .before .before .before in
       let a = start .args in
       let room = start .pre .1 in inside (a .s) (a .t) (a .p) (length (a .plan .now)) (room .size) (room .planned)
@@ -417,7 +417,7 @@ pub +visit-spec : {M : Type 1} → statement M
 +visit-spec = close μ-visit λ t. visit-lts.spec (around t) (visit-at t) visit.Post
     (visit-mul-m t)
     (visit-add-m t)
-    (visit-shared-slice-read-if1 t)
+    (visit-shared-slice-read-cut t)
     (visit-add-e t)
     (visit-sub-cut-kind t)
     (visit-part-cut-kind-start t)

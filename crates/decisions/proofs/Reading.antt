@@ -19,9 +19,9 @@ use Rattle.model.proofs.Transform.{length-transform}
 use Rattle.words.specs.Words.{write}
 use Rattle.words.proofs.Store.{write-is}
 use Rattle.encode.specs.Answers.{transformNumber, transformBytes}
 use Rattle.decisions.specs.Bits.{decisionAt}
-use Rattle.decode.specs.Steps.{Sized, Readable, wordDecisions}
-use Rattle.decode.proofs.Lists.{length-over}
+use Rattle.decisions.specs.Bits.{Sized, Readable, wordDecisions}
+use Rattle.decisions.proofs.Buffers.{length-over}
 
 -- the front of an overwritten buffer, and what follows it
 module _ {A : Type 0} (new old : List A) (n : ℕ) (e : length new ≡ n) where

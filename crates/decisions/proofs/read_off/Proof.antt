@@ -1,13 +1,13 @@
--- `decode::read_off` meets its contract: hard bits, their transform, its unfrozen and frozen bits. Assumes nothing.
+-- `decisions::read_off` meets its contract: hard bits, their transform, its unfrozen and frozen bits. Assumes nothing.
 use mathlib.Core.Path.{ap, _∙_}
 use mathlib.Core.List.{List}
 use Prim.Native.Nat.{ℕ}
 use native.Mathlib.Omega.{arith}
 use Rattle.model.specs.Lists.{bit, over}
-use Rattle.decode.proofs.Bits.{hard-law, payload-law, check-law}
+use Rattle.decisions.proofs.Reading.{hard-law, payload-law, check-law}
 use borrow.Author.Needs.{needs}
-use Rattle.decode.proofs.read_off.Statement.{statement}
-use Rattle.decode.proofs.read_off.Tie as tie
+use Rattle.decisions.proofs.read_off.Statement.{statement}
+use Rattle.decisions.proofs.read_off.Tie as tie
 
 decide-requires : tie.Need-decide-requires
 decide-requires c κs =

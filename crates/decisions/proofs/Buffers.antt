@@ -1,17 +1,12 @@
--- Buffers whose front is overwritten, and one more element of a list. Assumes nothing.
+-- Buffers whose front is overwritten. Assumes nothing.
 use mathlib.Core.Path.{_≡_, refl, sym, _∙_, ap}
-use mathlib.Core.Bool.{Bool, _&&_}
 use mathlib.Core.List.{List, [], _∷_, _++_, append-assoc}
 use Prim.Native.Nat.{ℕ, suc, _+_, _<_, _≤_}
 use native.Mathlib.Numerals.{add-one}
 use native.Mathlib.Omega.{arith}
-use lib.Dec.{leb}
-use lib.IntN.{ℤ, pos, natAbs}
 use lib.ListN.{length, getD, set, take, drop, length-append, length-drop}
-use lib.Seq.{drop-cons, drop-length, take-suc, length-take-le, set-at}
+use lib.Seq.{drop-cons, take-suc, length-take-le, set-at}
 use Rattle.model.specs.Lists.{over}
-use Rattle.model.specs.Refusals.{llrsInRange}
-use Rattle.model.proofs.Lists.{and-assoc, and-true}
 
 -- one element more in front
 pub over-more : {A : Type 0} (new old : List A) (i : ℕ) (v d : A) → length new ≡ i → i < length old → set (over new old) i v ≡ over (new ++ (v ∷ [])) old
@@ -36,16 +31,3 @@ pub over-take : {A : Type 0} (from old : List A) (i : ℕ) (d : A) → i < lengt
 over-take {A} from old i d h lt =
     over-more (take i from) old i (getD from i d) d (length-take-le i from (omega arith)) lt
     ∙ ap (λ (l : List A). over l old) (sym (ap (λ (n : ℕ). take n from) (add-one i) ∙ take-suc from i d h))
-
--- ---- LLRs within their range
-pub range-more : (good : Bool) (llrs : List ℤ) (i : ℕ) → i < length llrs
-    → (good && llrsInRange (drop i llrs)) ≡ ((good && leb (natAbs (getD llrs i (pos 0))) 32767) && llrsInRange (drop (i + 1) llrs))
-unfolding llrsInRange
-range-more good llrs i h = rw (add-one, drop-cons llrs i (pos 0)) (sym (and-assoc good (leb (natAbs (getD llrs i (pos 0))) 32767) (llrsInRange (drop (suc i) llrs))))
-
-pub range-end : (good : Bool) (llrs : List ℤ) (i : ℕ) → length llrs ≤ i → i ≤ length llrs → (good && llrsInRange (drop i llrs)) ≡ good
-unfolding llrsInRange
-range-end good llrs i l m = ap (λ (z : List ℤ). good && llrsInRange z) (ap (λ (n : ℕ). drop n llrs) (same l m) ∙ drop-length llrs) ∙ and-true good
-  where
-    same : length llrs ≤ i → i ≤ length llrs → i ≡ length llrs
-    same l m = omega arith

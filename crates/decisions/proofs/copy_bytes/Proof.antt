@@ -1,4 +1,4 @@
--- `decode::copy_bytes` meets its contract. The loop's invariant: the first i bytes are copied. Assumes nothing.
+-- `decisions::copy_bytes` meets its contract. The loop's invariant: the first i bytes are copied. Assumes nothing.
 use mathlib.Core.Path.{_≡_, refl, sym, ap, _∙_}
 use mathlib.Core.List.{List}
 use Prim.Native.Nat.{ℕ, _-_, _≤_}
@@ -6,10 +6,10 @@ use native.Mathlib.Omega.{arith}
 use native.Mathlib.Nat.{le-antisymm}
 use lib.ListN.{length, getD, set, take, length-set}
 use Rattle.model.specs.Lists.{over}
-use Rattle.decode.proofs.Lists.{over-none, over-take}
+use Rattle.decisions.proofs.Buffers.{over-none, over-take}
 use borrow.Author.Needs.{needs}
-use Rattle.decode.proofs.copy_bytes.Statement.{statement}
-use Rattle.decode.proofs.copy_bytes.Tie as tie
+use Rattle.decisions.proofs.copy_bytes.Statement.{statement}
+use Rattle.decisions.proofs.copy_bytes.Tie as tie
 
 abbrev Inv-loop : tie.InvT-loop
 Inv-loop from to₀ n i₀ to i = (i ≤ n) × (to ≡ over (take i from) to₀) × (length to ≡ length to₀)

@@ -1,11 +1,11 @@
--- `decode::decoded_bits` meets its contract: the copied word is transformed where it stands. Assumes nothing.
+-- `decisions::decoded_bits` meets its contract: the copied word is transformed where it stands. Assumes nothing.
 use mathlib.Core.Path.{sym}
 use native.Mathlib.Omega.{arith}
 use lib.Seq.{length-take-le}
-use Rattle.decode.proofs.Bits.{bits-law}
+use Rattle.decisions.proofs.Reading.{bits-law}
 use borrow.Author.Needs.{needs}
-use Rattle.decode.proofs.decoded_bits.Statement.{statement}
-use Rattle.decode.proofs.decoded_bits.Tie as tie
+use Rattle.decisions.proofs.decoded_bits.Statement.{statement}
+use Rattle.decisions.proofs.decoded_bits.Tie as tie
 
 copy-bytes-requires : tie.Need-copy-bytes-requires
 copy-bytes-requires c κs = search needs
