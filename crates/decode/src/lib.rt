@@ -174,5 +174,6 @@ pub fn decode(
     soft_values(mask, plan, llrs, sweeps, n, t, soft, work);
     fill(work, 0, words, 0);
     let check = read_off(mask, llrs, soft, hard, payload, n);
-    answer(0, sweeps as u32 * input.cycles, check)
+    let cycles = sweeps as u32 * input.cycles;
+    answer(0, cycles, check)
 }

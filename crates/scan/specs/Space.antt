@@ -90,8 +90,14 @@ pub record Ready (plan mask : List ℕ) (N t : ℕ) (first : Bool) (w : List ℤ
   pub small : SmallAll t 32767 (soft w (N * (t + 1)) (2 ^ t))
   pub held : Held plan t 1 32767 (begun first plan t 1 mask (treeAt N w t 0))
 
+-- the words in which the incoming lists of the nodes below the root are made: N of them, past the root's own list.
+-- What a sweep leaves there is open; it reads no such word before it has stored it, so what they held has no influence on another word.
+abbrev pub Scratch : ℕ → ℕ → ℕ → Type 0
+Scratch N t j = (N * (t + 2) ≤ j) × (j < N * (t + 3))
+
 -- v is w after k sweeps along the plan, the first sweep among them or not: the messages of the nodes at and above the cuts are the walk's;
--- stored messages of nodes below a cut are as they were, whatever they held; the root's incoming list and what lies past the workspace are too
+-- stored messages of nodes below a cut are as they were, whatever they held; the root's incoming list and what lies past the workspace are too.
+-- This leaves `Scratch` open and nothing else: proofs/Open.antt
 pub record Swept (plan mask : List ℕ) (N t : ℕ) (first : Bool) (k : ℕ) (w v : List ℤ) : Type 0 where
   pub tree : treeAt N v t 0 ≡ sweeps (λ T. walk plan t 1 mask T (soft w (N * (t + 1)) N)) k (begun first plan t 1 mask (treeAt N w t 0))
   pub below : Stays plan t 1 (treeAt N w t 0) (treeAt N v t 0)
