@@ -5,8 +5,8 @@ use crate::buffers::lent_words;
 use crate::buffers::shorts;
 use decode::Decoded;
 use encode::Encoded;
+use planner::Planned;
 use plans::Checked;
-use plans::Planned;
 
 // The lengths that a decode is called with, and its sweeps.
 pub struct Lengths {
@@ -43,7 +43,7 @@ pub fn decode_front(
 }
 
 pub fn plan_front(mask: &[u8], n: usize, plan: &mut [u8], room: usize) -> Planned {
-    plans::plan_mask(bytes(mask, n), lent_bytes(plan, room))
+    planner::plan_mask(bytes(mask, n), lent_bytes(plan, room))
 }
 
 pub fn check_front(mask: &[u8], n: usize, plan: &[u8], size: usize) -> Checked {

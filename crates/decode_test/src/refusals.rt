@@ -24,7 +24,7 @@ use crate::numbers::choose;
 use crate::numbers::length_of;
 use crate::numbers::minus;
 use crate::numbers::one_if;
-use plans::Planned;
+use planner::Planned;
 ghost use Prim.Native.Nat.{_≤_};
 
 const DECODE_FAULTS: usize = 11;

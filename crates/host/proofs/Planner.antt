@@ -12,7 +12,7 @@ use Rattle.model.specs.Encoding.{maxMask}
 use Rattle.model.specs.Plans.{isPlan, oneCut, cutsOfKinds, Allowed, cycles, plannerPlan}
 use Rattle.model.specs.Refusals.{refusal, exponent, planNumber, planBytes, planCounts, checkNumber, checkCycles}
 use Rattle.model.proofs.Lists.{T-true}
-use Rattle.plans.proofs.Results.{passed, front, planner-result}
+use Rattle.planner.proofs.Results.{passed, front, planner-result}
 use Rattle.host.specs.Answers.{PlanAnswer, planCycles, hostCounts}
 
 -- the check of an allowed plan gives its cycles

@@ -2,8 +2,8 @@
 use decode::decode;
 use encode::Encoded;
 use encode::encode;
+use planner::plan_mask;
 use plans::check_plan;
-use plans::plan_mask;
 use samples::Channel;
 use samples::Converted;
 use samples::samples_to_llrs;

@@ -1,7 +1,7 @@
 // The line program as a library: from the bytes of a line to the bytes of its answer.
 use decode::decode;
 use inputs::unfrozen_of;
-use plans::plan_mask;
+use planner::plan_mask;
 use printer::print_decoded;
 use printer::print_refusal;
 use reader::read_line;

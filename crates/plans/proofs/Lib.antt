@@ -2,8 +2,3 @@ pub mod Parts
 pub mod Cuts
 pub mod Costs
 pub mod Faults
-pub mod Written
-pub mod Counted
-pub mod Steps
-pub mod Answers
-pub mod Results

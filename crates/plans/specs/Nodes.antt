@@ -52,30 +52,3 @@ pub record Costs (plan : List ℕ) (t p : ℕ) (mask : List ℕ) (well : Bool) (
   pub cuts : m ≡ cutsMet plan t p
   pub own : c ≡ cycles plan t p mask
   pub edge : e ≡ edgeCycles plan (2 ^ t) p mask
-
--- a plan with the planner's cuts from node p of stage t down put in
-unfoldable pub written : ℕ → ℕ → List ℕ → List ℕ → List ℕ
-written zero p mask plan = cond (isSome (kindOf 1 mask)) (set plan p 1) plan
-written (suc t) p mask plan =
-    let below : List ℕ = written t (2 * p + 1) (drop (2 ^ t) mask) (written t (2 * p) (take (2 ^ t) mask) plan) in
-    cond (isSome (kindOf (2 ^ suc t) mask)) (set plan p 1) below
-
--- a kind's place in the table's order, and the number of kinds for none
-abbrev pub rowOf : Option Kind → ℕ
-rowOf none = length order
-rowOf (some k) = row k
-
--- one more of a row
-abbrev pub noted : ℕ → List ℕ → List ℕ
-noted i cs = set cs i (getD cs i 0 + 1)
-
--- counts by kind with the planner's cuts of a node of stage t added
-unfoldable pub counted : ℕ → List ℕ → List ℕ → List ℕ
-counted zero mask cs = cond (isSome (kindOf 1 mask)) (noted (rowOf (kindOf 1 mask)) cs) cs
-counted (suc t) mask cs =
-    let below : List ℕ = counted t (drop (2 ^ t) mask) (counted t (take (2 ^ t) mask) cs) in
-    cond (isSome (kindOf (2 ^ suc t) mask)) (noted (rowOf (kindOf (2 ^ suc t) mask)) cs) below
-
--- each count can take the cuts of a node of stage t
-pub record Free (t : ℕ) (cs : List ℕ) : Type 0 where
-  pub free : (i : ℕ) → getD cs i 0 + 2 ^ t ≤ 65536

@@ -1,4 +1,4 @@
-// The planner, the check of a plan, and the cycles of one sweep.
+// The check of a plan, and the cycles of one sweep.
 // A recursion goes down the tree with a node's stage t, its number p, and its positions of the mask: 2p and 2p + 1 are its children.
 use inputs::at_most;
 use inputs::both;
@@ -8,20 +8,16 @@ use kinds::Kind;
 use kinds::kind_of;
 ghost use mathlib.Core.Path.{_≡_};
 ghost use mathlib.Core.Bool.{cond, _&&_};
-ghost use mathlib.Core.List.{_++_};
 ghost use Prim.Native.Nat.{_+_, _*_, _≤_, _<_, _^_};
 ghost use lib.Dec.{T, eqb};
-ghost use lib.ListN.{length, getD, drop, replicate};
+ghost use lib.ListN.{length, getD};
 ghost use Rattle.model.specs.Lists.{atMost};
 ghost use Rattle.model.specs.Kinds.{isSome};
 ghost use Rattle.model.specs.Plans.{isRate01, cutCycles};
-ghost use Rattle.model.specs.Refusals.{planNumber, planBytes, planCounts, checkNumber, checkCycles};
+ghost use Rattle.model.specs.Refusals.{checkNumber, checkCycles};
 ghost use Rattle.kinds.specs.Runs.{kindNamed};
-ghost use Rattle.plans.specs.Nodes.{Node, Span, part, byteSum, Costs, rowOf, written, counted, Free};
+ghost use Rattle.plans.specs.Nodes.{Span, part, byteSum, Costs};
 ghost use Rattle.plans.specs.Faults.{faultNumber, faultCycles};
-
-// The number of kinds.
-const KINDS: usize = 6;
 
 // What the check finds at a node: whether each path from it down has a cut, the first at a node of some kind; the number of those first cuts;
 // its cycles with those below it; and the cycles that its parent counts for the edge to it.
@@ -179,83 +175,4 @@ pub fn check_plan(mask: &[u8], plan: &[u8]) -> Checked
         };
     }
     fault_of(mask, plan, t)
-}
-
-// Sets the first n bytes to 0.
-fn zero_front(plan: &mut [u8], n: usize)
-    requires { ⌜ n ≤ length (now plan) ⌝ }
-    ensures { λ _. ⌜ now (plan .exit) ≡ replicate n 0 ++ drop n (now (plan .entry)) ⌝ }
-{
-    let mut i = 0;
-    while i < n {
-        plan[i] = 0;
-        i += 1;
-    }
-}
-
-// The place of a kind in the table's order, and the number of kinds for none.
-fn row_of(k: Kind) -> usize
-    ensures { λ r. ⌜ r ≡ rowOf (kindNamed k) ⌝ }
-{
-    match k {
-        Kind::Rate0 => 0,
-        Kind::Rate1 => 1,
-        Kind::Rep => 2,
-        Kind::Spc => 3,
-        Kind::TypeI => 4,
-        Kind::TypeIII => 5,
-        Kind::NoKind => KINDS,
-    }
-}
-
-// Cuts each node of a kind, from node p of stage t down, that has no such node above it, and counts it by its kind.
-fn write_plan(mask: &[u8], plan: &mut [u8], counts: &mut [u32; 6], t: usize, p: usize)
-    requires { ⌜ Node t p (length (now mask)) (length (now plan)) ⌝ }
-    requires { ⌜ Free t (now counts) ⌝ }
-    ensures { λ _. ⌜ now (plan .exit) ≡ written t p (now (mask .entry)) (now (plan .entry)) ⌝ }
-    ensures { λ _. ⌜ now (counts .exit) ≡ counted t (now (mask .entry)) (now (counts .entry)) ⌝ }
-{
-    let i = row_of(kind_of(mask));
-    if i < KINDS {
-        plan[p] = 1;
-        counts[i] += 1;
-        return;
-    }
-    if t == 0 {
-        return;
-    }
-    let u = t - 1;
-    let l = 2 * p;
-    let r = l + 1;
-    let h = mask.len() / 2;
-    write_plan(&mask[..h], plan, counts, u, l);
-    write_plan(&mask[h..], plan, counts, u, r);
-}
-
-// What the planner answers: the number, and the counts of cut nodes by kind, in table order.
-pub struct Planned {
-    pub number: u32,
-    pub counts: [u32; 6],
-}
-
-// Writes the plan that cuts each node of a kind that has no such node above it.
-pub fn plan_mask(mask: &[u8], plan: &mut [u8]) -> Planned
-    ensures { λ r. ⌜ (r .number ≡ planNumber (now (mask .entry)) (length (now (plan .entry)))) × (r .counts ≡ planCounts (now (mask .entry)) (length (now (plan .entry)))) ⌝ }
-    ensures { λ _. ⌜ now (plan .exit) ≡ planBytes (now (mask .entry)) (now (plan .entry)) ⌝ }
-{
-    let mut counts = [0u32; 6];
-    let t = exponent_of(mask.len());
-    if t == 0 {
-        return Planned { number: 1, counts };
-    }
-    if !mask_bytes(mask) {
-        return Planned { number: 2, counts };
-    }
-    let size = 2 * mask.len();
-    if plan.len() < size {
-        return Planned { number: 11, counts };
-    }
-    zero_front(plan, size);
-    write_plan(mask, plan, &mut counts, t, 1);
-    Planned { number: 0, counts }
 }

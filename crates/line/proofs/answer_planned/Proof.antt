@@ -5,7 +5,7 @@ use Prim.Native.Nat.{ℕ, _*_, _≤_}
 use native.Mathlib.Omega.{arith}
 use lib.ListN.{length}
 use lib.Seq.{length-take-le}
-use Rattle.plans.proofs.Results.{front, planner-result}
+use Rattle.planner.proofs.Results.{front, planner-result}
 use Rattle.line.specs.Program.{decodeText}
 use Rattle.line.proofs.Decodes.{reprinted, plan-accepted}
 use borrow.Author.Needs.{needs}

@@ -16,8 +16,8 @@ use Rattle.model.specs.Kinds.{Kind, rate-0, rate-1, REP, SPC, type-I, type-III,
 use Rattle.model.specs.Plans.{isCut, noCut, cutsOf, counts, plannerPlan}
 use Rattle.model.proofs.Lists.{cond-both, true-T, and-l, and-r}
 use Rattle.model.proofs.Planner.{Chosen, planner-chosen}
-use Rattle.plans.specs.Nodes.{rowOf, noted, counted, Free}
-use Rattle.plans.proofs.Written.{zeros-at, take-tabulate}
+use Rattle.planner.specs.Writing.{rowOf, noted, counted, Free}
+use Rattle.planner.proofs.Written.{zeros-at, take-tabulate}
 
 row-low : (k : Kind) → row k < length order
 row-low rate-0 = omega arith

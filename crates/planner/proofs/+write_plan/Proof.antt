@@ -4,20 +4,20 @@ use native.Mathlib.Omega.{arith}
 use lib.ListN.{length-set}
 use lib.Pow.{pow-pos}
 use lib.Seq.{length-take-le}
-use Rattle.plans.specs.Nodes.{rowOf}
+use Rattle.planner.specs.Writing.{rowOf}
 use Rattle.plans.proofs.Parts.{inside, place-r, node-l, node-r}
-use Rattle.plans.proofs.Steps.{kind-node, leaf-node, down-node, free-l, free-r, node-in}
+use Rattle.planner.proofs.Steps.{kind-node, leaf-node, down-node, free-l, free-r, node-in}
 use borrow.Author.Needs.{needs}
 use Prim.Native.Nat.{ℕ, _<_}
 use borrow.Fn.Kinds.{In}
 use borrow.Fn.PlainCycle.{Measures, is, falls, and}
-use Rattle.plans.proofs.write_plan.Reads as write-plan
-use Rattle.plans.proofs.write_plan.Kinds as write-plan-kinds
-use Rattle.plans.proofs.+write_plan.Lts-write_plan as write-plan-lts
+use Rattle.planner.proofs.write_plan.Reads as write-plan
+use Rattle.planner.proofs.write_plan.Kinds as write-plan-kinds
+use Rattle.planner.proofs.+write_plan.Lts-write_plan as write-plan-lts
 use Rattle.kinds.proofs.kind_of.Reads as kind-of-reads
-use Rattle.plans.proofs.row_of.Reads as row-of-reads
-use Rattle.plans.proofs.+write_plan.{statement}
-use Rattle.plans.proofs.+write_plan.Tie.{close}
+use Rattle.planner.proofs.row_of.Reads as row-of-reads
+use Rattle.planner.proofs.+write_plan.{statement}
+use Rattle.planner.proofs.+write_plan.Tie.{close}
 
 abbrev μ-write-plan : Measures 3 write-plan-kinds.ps ℕ
 μ-write-plan κs a = a .1 .1 .1 .0

@@ -1,12 +1,12 @@
--- `plans::zero_front` meets its contract. The loop's invariant: the first i bytes are 0, the others as they were. Assumes nothing.
+-- `planner::zero_front` meets its contract. The loop's invariant: the first i bytes are 0, the others as they were. Assumes nothing.
 use mathlib.Core.Path.{_≡_, refl, ap, _∙_}
 use mathlib.Core.List.{List, _++_}
 use Prim.Native.Nat.{ℕ, _-_, _≤_}
 use native.Mathlib.Omega.{arith}
 use lib.ListN.{length, set, drop, replicate, length-set}
 use borrow.Author.Fill.{fill-none, fill-more}
-use Rattle.plans.proofs.zero_front.Statement.{statement}
-use Rattle.plans.proofs.zero_front.Tie as tie
+use Rattle.planner.proofs.zero_front.Statement.{statement}
+use Rattle.planner.proofs.zero_front.Tie as tie
 
 abbrev Inv-loop : tie.InvT-loop
 Inv-loop plan₀ n i₀ plan i = (i ≤ n) × (plan ≡ replicate i 0 ++ drop i plan₀) × (length plan ≡ length plan₀)

@@ -7,9 +7,10 @@ use mathlib.Core.List.{List}
 use lib.ListN.{length, take, drop, set}
 use Rattle.model.specs.Kinds.{order, kindOf, isSome}
 use Rattle.model.proofs.Lists.{take-left}
-use Rattle.plans.specs.Nodes.{Node, rowOf, noted, written, counted, Free}
+use Rattle.plans.specs.Nodes.{Node}
+use Rattle.planner.specs.Writing.{rowOf, noted, written, counted, Free}
 use Rattle.plans.proofs.Parts.{half, twice, at-zero, at-suc}
-use Rattle.plans.proofs.Counted.{row-some, row-none, counted-le}
+use Rattle.planner.proofs.Counted.{row-some, row-none, counted-le}
 
 -- both results of the recursion
 abbrev Both : ℕ → ℕ → List ℕ → List ℕ → List ℕ → List ℕ → List ℕ → Type 0

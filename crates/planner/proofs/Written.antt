@@ -14,8 +14,9 @@ use Rattle.model.specs.Kinds.{kindOf, isSome}
 use Rattle.model.specs.Plans.{cutAt, levels, plannerPlan}
 use Rattle.model.proofs.Lists.{double, halves}
 use Rattle.model.proofs.Planner.{idx-root, idx-l, idx-r, cutAt-some, cutAt-l, cutAt-r}
-use Rattle.plans.specs.Nodes.{Place, written}
+use Rattle.plans.specs.Nodes.{Place}
+use Rattle.planner.specs.Writing.{written}
 use Rattle.plans.proofs.Parts.{inside, root}
 
 -- the two subtrees of a node share no place
 apart : (p d i e j : ℕ) → 1 ≤ p → i < 2 ^ d → j < 2 ^ e → (2 * p) * 2 ^ d + i ≡ (2 * p + 1) * 2 ^ e + j → ⊥

@@ -13,10 +13,10 @@ use Rattle.model.specs.Encoding.{maxMask}
 use Rattle.model.specs.Plans.{plannerPlan, counts}
 use Rattle.model.specs.Refusals.{refusal, exponent, planNumber, planBytes, planCounts}
 use Rattle.model.proofs.Planner.{planner-length}
-use Rattle.plans.specs.Nodes.{written, counted}
+use Rattle.planner.specs.Writing.{written, counted}
 use Rattle.plans.proofs.Faults.{staged, sized}
-use Rattle.plans.proofs.Written.{planned}
-use Rattle.plans.proofs.Counted.{counts-planned}
+use Rattle.planner.proofs.Written.{planned}
+use Rattle.planner.proofs.Counted.{counts-planned}
 
 -- the three results
 abbrev Answer : List ℕ → List ℕ → ℕ → List ℕ → List ℕ → Type 0

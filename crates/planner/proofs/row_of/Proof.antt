@@ -1,7 +1,7 @@
--- `plans::row_of` meets its contract, kind by kind. Assumes nothing.
+-- `planner::row_of` meets its contract, kind by kind. Assumes nothing.
 use borrow.Author.Needs.{needs}
-use Rattle.plans.proofs.row_of.Statement.{statement}
-use Rattle.plans.proofs.row_of.Tie as tie
+use Rattle.planner.proofs.row_of.Statement.{statement}
+use Rattle.planner.proofs.row_of.Tie as tie
 
 enum-told : tie.Need-enum-told
 enum-told c = search needs

@@ -1,4 +1,4 @@
--- `plans::plan_mask` meets its contract: the rows are tested in rising number, then the plan is zeroed and the cuts are written. Assumes nothing.
+-- `planner::plan_mask` meets its contract: the rows are tested in rising number, then the plan is zeroed and the cuts are written. Assumes nothing.
 use mathlib.Core.Path.{_≡_, sym, _∙_}
 use mathlib.Core.Bool.{true}
 use native.Mathlib.Omega.{arith}
@@ -6,12 +6,12 @@ use borrow.Author.Needs.{needs}
 use borrow.Author.Tests.{not-true, not-false}
 use Rattle.model.specs.Lists.{atMost}
 use Rattle.model.specs.Encoding.{maxMask}
 use Rattle.plans.proofs.Parts.{root}
 use Rattle.plans.proofs.Faults.{staged}
-use Rattle.plans.proofs.Counted.{free-zeros}
-use Rattle.plans.proofs.Answers.{plan-1, plan-2, plan-11, plan-0}
-use Rattle.plans.proofs.plan_mask.Statement.{statement}
-use Rattle.plans.proofs.plan_mask.Tie as tie
+use Rattle.planner.proofs.Counted.{free-zeros}
+use Rattle.planner.proofs.Answers.{plan-1, plan-2, plan-11, plan-0}
+use Rattle.planner.proofs.plan_mask.Statement.{statement}
+use Rattle.planner.proofs.plan_mask.Tie as tie
 
 exponent-of-requires : tie.Need-exponent-of-requires
 exponent-of-requires c κs = search needs

@@ -1,0 +1,96 @@
+// The planner.
+// The recursion goes down the tree with a node's stage t, its number p, and its part of the mask: 2p and 2p + 1 are its children.
+use inputs::exponent_of;
+use inputs::mask_bytes;
+use kinds::Kind;
+use kinds::kind_of;
+ghost use mathlib.Core.Path.{_≡_};
+ghost use mathlib.Core.List.{_++_};
+ghost use Prim.Native.Nat.{_≤_};
+ghost use lib.ListN.{length, drop, replicate};
+ghost use Rattle.model.specs.Refusals.{planNumber, planBytes, planCounts};
+ghost use Rattle.kinds.specs.Runs.{kindNamed};
+ghost use Rattle.plans.specs.Nodes.{Node};
+ghost use Rattle.planner.specs.Writing.{rowOf, written, counted, Free};
+
+// The number of kinds.
+const KINDS: usize = 6;
+
+// Sets the first n bytes to 0.
+fn zero_front(plan: &mut [u8], n: usize)
+    requires { ⌜ n ≤ length (now plan) ⌝ }
+    ensures { λ _. ⌜ now (plan .exit) ≡ replicate n 0 ++ drop n (now (plan .entry)) ⌝ }
+{
+    let mut i = 0;
+    while i < n {
+        plan[i] = 0;
+        i += 1;
+    }
+}
+
+// The place of a kind in the table's order, and the number of kinds for none.
+fn row_of(k: Kind) -> usize
+    ensures { λ r. ⌜ r ≡ rowOf (kindNamed k) ⌝ }
+{
+    match k {
+        Kind::Rate0 => 0,
+        Kind::Rate1 => 1,
+        Kind::Rep => 2,
+        Kind::Spc => 3,
+        Kind::TypeI => 4,
+        Kind::TypeIII => 5,
+        Kind::NoKind => KINDS,
+    }
+}
+
+// Cuts each node of a kind, from node p of stage t down, that has no such node above it, and counts it by its kind.
+fn write_plan(mask: &[u8], plan: &mut [u8], counts: &mut [u32; 6], t: usize, p: usize)
+    requires { ⌜ Node t p (length (now mask)) (length (now plan)) ⌝ }
+    requires { ⌜ Free t (now counts) ⌝ }
+    ensures { λ _. ⌜ now (plan .exit) ≡ written t p (now (mask .entry)) (now (plan .entry)) ⌝ }
+    ensures { λ _. ⌜ now (counts .exit) ≡ counted t (now (mask .entry)) (now (counts .entry)) ⌝ }
+{
+    let i = row_of(kind_of(mask));
+    if i < KINDS {
+        plan[p] = 1;
+        counts[i] += 1;
+        return;
+    }
+    if t == 0 {
+        return;
+    }
+    let u = t - 1;
+    let l = 2 * p;
+    let r = l + 1;
+    let h = mask.len() / 2;
+    write_plan(&mask[..h], plan, counts, u, l);
+    write_plan(&mask[h..], plan, counts, u, r);
+}
+
+// What the planner answers: the number, and the counts of cut nodes by kind, in table order.
+pub struct Planned {
+    pub number: u32,
+    pub counts: [u32; 6],
+}
+
+// Writes the plan that cuts each node of a kind that has no such node above it.
+pub fn plan_mask(mask: &[u8], plan: &mut [u8]) -> Planned
+    ensures { λ r. ⌜ (r .number ≡ planNumber (now (mask .entry)) (length (now (plan .entry)))) × (r .counts ≡ planCounts (now (mask .entry)) (length (now (plan .entry)))) ⌝ }
+    ensures { λ _. ⌜ now (plan .exit) ≡ planBytes (now (mask .entry)) (now (plan .entry)) ⌝ }
+{
+    let mut counts = [0u32; 6];
+    let t = exponent_of(mask.len());
+    if t == 0 {
+        return Planned { number: 1, counts };
+    }
+    if !mask_bytes(mask) {
+        return Planned { number: 2, counts };
+    }
+    let size = 2 * mask.len();
+    if plan.len() < size {
+        return Planned { number: 11, counts };
+    }
+    zero_front(plan, size);
+    write_plan(mask, plan, &mut counts, t, 1);
+    Planned { number: 0, counts }
+}
