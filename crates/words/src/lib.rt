@@ -84,6 +84,14 @@ pub fn store_four(w: &mut [i32], d: usize, p: i32, q: i32, r: i32, s: i32)
     w[d + 3] = s;
 }
 
+// An LLR as a word.
+fn widened(llr: i16) -> i32
+    ensures { λ r. ⌜ r ≡ llr ⌝ }
+{
+    let word = llr as i32;
+    word
+}
+
 // w[m + k] = llrs[k]
 pub fn load_llrs(w: &mut [i32], m: usize, llrs: &[i16])
     requires { ⌜ m + length (now llrs) ≤ length (now w) ⌝ }
@@ -91,7 +99,7 @@ pub fn load_llrs(w: &mut [i32], m: usize, llrs: &[i16])
 {
     let mut k = 0;
     while k < llrs.len() {
-        let v = llrs[k] as i32;
+        let v = widened(llrs[k]);
         w[m + k] = v;
         k += 1;
     }

@@ -6,7 +6,7 @@ use native.Mathlib.Nat.{le-antisymm}
 use lib.IntN.{pos}
 use lib.ListN.{length, length-set}
 use Rattle.words.specs.Words.{word, write}
-use Rattle.words.proofs.Signed.{wide16, back-wide}
+use Rattle.words.proofs.Signed.{back, back16}
 use Rattle.words.proofs.Store.{store-none, store-more}
 use borrow.Author.Needs.{needs}
 use Rattle.words.proofs.load_llrs.Statement.{statement}
@@ -22,21 +22,20 @@ loop-holds : tie.Need-loop-holds Inv-loop μ-loop
 loop-holds c =
     (omega arith, store-none (pos 0) _ _ _, refl)
 
-mul-v : tie.Need-mul-v Inv-loop μ-loop
-mul-v c = search needs
+mul-widened : tie.Need-mul-widened Inv-loop μ-loop
+mul-widened c = search needs
 
-shared-slice-copy-out-v : tie.Need-shared-slice-copy-out-v Inv-loop μ-loop
-shared-slice-copy-out-v c = search needs
+shared-slice-copy-out-widened : tie.Need-shared-slice-copy-out-widened Inv-loop μ-loop
+shared-slice-copy-out-widened c = search needs
 
-cast-v : tie.Need-cast-v Inv-loop μ-loop
-cast-v c =
-    wide16 (word (c .before .before .before .args .llrs .now) (c .before .before .loop .k)) (c .v .given)
+widened-requires : tie.Need-widened-requires Inv-loop μ-loop
+widened-requires c κs = search needs
 
 add-v : tie.Need-add-v Inv-loop μ-loop
 add-v c = search needs
 
-mul-v-2 : tie.Need-mul-v-2 Inv-loop μ-loop
-mul-v-2 c = search needs
+mul-v : tie.Need-mul-v Inv-loop μ-loop
+mul-v c = search needs
 
 slice-set-from-v : tie.Need-slice-set-from-v Inv-loop μ-loop
 slice-set-from-v c = search needs
@@ -49,9 +48,10 @@ loop-less c = search needs
 
 loop-again : tie.Need-loop-again Inv-loop μ-loop
 loop-again c =
-    let at-loop = c .before .before in
+    let at-loop = c .before .before .before in
     let a = at-loop .before .args in
-    (omega arith, store-more (pos 0) (a .w .now) (at-loop .loop .w) (a .m) (at-loop .loop .k) _ (word (a .llrs .now)) (at-loop .loop .inv .1) (back-wide (c .v .given)), simp length-set (at-loop .loop .inv .2))
+    let value = back (c .widened .ok) ∙ c .widened .ensures ∙ back16 {z = word (a .llrs .now) (at-loop .loop .k)} (c .before .widened-arg .given) in
+    (omega arith, store-more (pos 0) (a .w .now) (at-loop .loop .w) (a .m) (at-loop .loop .k) _ (word (a .llrs .now)) (at-loop .loop .inv .1) value, simp length-set (at-loop .loop .inv .2))
 
 same-length : tie.Need-same-length Inv-loop μ-loop
 same-length c =
@@ -70,11 +70,11 @@ load-llrs-spec =
     Inv-loop
     μ-loop
     loop-holds
-    mul-v
-    shared-slice-copy-out-v
-    cast-v
+    mul-widened
+    shared-slice-copy-out-widened
+    widened-requires
     add-v
-    mul-v-2
+    mul-v
     slice-set-from-v
     add-k
     loop-less

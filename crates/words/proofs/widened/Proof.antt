@@ -1,0 +1,13 @@
+-- `words::widened` meets its contract. Assumes nothing.
+use Rattle.words.proofs.Signed.{wide16, back-wide}
+use Rattle.words.proofs.widened.Statement.{statement}
+use Rattle.words.proofs.widened.Tie as tie
+
+cast-word : tie.Need-cast-word
+cast-word c = wide16 (c .args .llr) (c .fits .llr .sfits)
+
+returns : tie.Need-returns
+returns c = back-wide (c .fits .llr .sfits)
+
+pub widened-spec : {M : Type 1} → statement M
+widened-spec = tie.close (tie.spec cast-word returns)
