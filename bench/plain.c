@@ -1,6 +1,7 @@
 // Encoder, planner, front end and decoder in plain C, as one would write them without intrinsics.
 #include "baseline.h"
 #include "kinds.h"
+#include "slips.h"
 
 #include <math.h>
 #include <string.h>
@@ -125,13 +126,13 @@ static void rep_message(const int32_t *restrict list, int32_t *restrict message,
     for (size_t first = 0; first < stride; first++) {
         int32_t sum = 0;
         for (size_t k = first; k < size; k += stride) sum += list[k];
-        for (size_t k = first; k < size; k += stride) message[k] = sum - list[k];
+        for (size_t k = first; k < size; k += stride) message[k] = SLIP == OWN_VALUE ? sum : sum - list[k];
     }
 }
 
 static void spc_message(const int32_t *restrict list, int32_t *restrict message, size_t size, size_t stride) {
     for (size_t first = 0; first < stride; first++) {
-        int32_t least = CERTAIN, next = CERTAIN, signs = 0;
+        int32_t least = CERTAIN, next = CERTAIN, signs = 0, least_places = 0;
         for (size_t k = first; k < size; k += stride) {
             int32_t x = list[k] < 0 ? -list[k] : list[k], larger = x < least ? least : x;
             signs ^= list[k];
@@ -139,8 +140,10 @@ static void spc_message(const int32_t *restrict list, int32_t *restrict message,
             least = x < least ? x : least;
         }
         for (size_t k = first; k < size; k += stride) {
-            int32_t x = list[k] < 0 ? -list[k] : list[k], other = x == least ? next : least;
-            message[k] = (signs ^ list[k]) < 0 ? -other : other;
+            int32_t x = list[k] < 0 ? -list[k] : list[k], other = x == least && SLIP != LEAST_PLACE ? next : least;
+            // Equation 11 has the product of the other signs at one place of the least size, elsewhere the own sign.
+            int own_sign = SLIP == EVEN_PARITY && (x != least || least_places++);
+            message[k] = (own_sign ? list[k] : signs ^ list[k]) < 0 ? -other : other;
         }
     }
 }
@@ -241,11 +244,19 @@ static int has_lowest(const int16_t *llrs, size_t n) {
     return found;
 }
 
+// The slip START_CERTAIN: the larger nodes that have only frozen positions.
+static void start_certain(const uint8_t *mask, size_t n, int32_t *work) {
+    for (size_t size = n; size > 1; size /= 2, work += n)
+        for (size_t first = 0; first < n; first += size)
+            if (count_ones(mask + first, size) == size) fill(work + first, size, CERTAIN);
+}
+
 static void sweep_all(const uint8_t *mask, size_t n, int t, const uint8_t *plan, const int16_t *llrs, size_t sweeps,
                       int32_t *work) {
     decoder d = {mask, plan, n};
     int32_t *lists = work + n * ((size_t)t + 1), *leaves = work + n * (size_t)t;
     memset(work, 0, n * (size_t)t * sizeof *work);
+    if (SLIP == START_CERTAIN) start_certain(mask, n, work);
     for (size_t i = 0; i < n; i++) leaves[i] = mask[i] ? CERTAIN : 0;
     for (size_t i = 0; i < n; i++) lists[i] = llrs[i];
     for (size_t s = 0; s < sweeps; s++) visit(&d, 1, lists, work, 0, n);
@@ -281,7 +292,7 @@ uint64_t plain_decode(const uint8_t *mask, size_t n, const uint8_t *plan, size_t
     sweep_all(mask, n, t, plan, llrs, sweeps, work);
     for (size_t i = 0; i < n; i++) {
         soft[i] = work[i];
-        hard[i] = plus(work[i], llrs[i]) < 0;
+        hard[i] = (SLIP == SOFT_ALONE ? work[i] : plus(work[i], llrs[i])) < 0;
     }
     uint64_t check = (uint64_t)read_off(mask, n, hard, payload);
     memset(work, 0, words * sizeof *work);
