@@ -1,4 +1,4 @@
--- `halves::node_message` meets its contract. The loop's invariant: the first k words of both halves are stored, and nothing else is. Assumes nothing.
+-- `combine::node_message` meets its contract. The loop's invariant: the first k words of both halves are stored, and nothing else is. Assumes nothing.
 use mathlib.Core.Path.{_≡_, refl, sym, ap₂, _∙_, subst, subst₂}
 use lib.IntN.{pos}
 use Prim.Native.Nat.{ℕ, _+_, _-_, _≤_}
@@ -10,10 +10,11 @@ use mir.Syntax.{w32}
 use Rattle.words.specs.Words.{word, write, Word, Added, boxWord, addWord}
 use Rattle.words.proofs.Signed.{back}
 use Rattle.words.proofs.Store.{store-both}
-use Rattle.halves.proofs.Steps.{Halves, Sources, sources}
+use Rattle.words.proofs.Halves.{Halves}
+use Rattle.combine.proofs.Steps.{Sources, sources}
 use borrow.Author.Needs.{needs}
-use Rattle.halves.proofs.node_message.Statement.{statement}
-use Rattle.halves.proofs.node_message.Tie as tie
+use Rattle.combine.proofs.node_message.Statement.{statement}
+use Rattle.combine.proofs.node_message.Tie as tie
 
 abbrev Inv-loop : tie.InvT-loop
 Inv-loop w₀ m x l h y r g k₀ w k = (k ≤ h) × Halves w₀ m x l h k w × (length w ≡ length w₀)

@@ -1,4 +1,4 @@
--- `halves::message_left_certain` meets its contract. The loop's invariant is that of `node_message`; a box with certain is the other word. Assumes nothing.
+-- `combine::message_left_certain` meets its contract. The loop's invariant is that of `node_message`; a box with certain is the other word. Assumes nothing.
 use mathlib.Core.Path.{_≡_, refl, sym, ap₂, _∙_, subst, subst₂}
 use lib.IntN.{pos}
 use Prim.Native.Nat.{ℕ, _+_, _-_, _≤_}
@@ -11,10 +11,11 @@ use Rattle.words.specs.Words.{word, write, Added, addWord}
 use Rattle.words.proofs.Signed.{back}
 use Rattle.words.proofs.Laws.{box-certain, box-plus-certain, plus-box-certain}
 use Rattle.words.proofs.Store.{store-both}
-use Rattle.halves.proofs.Steps.{Halves, Sources, sources}
+use Rattle.words.proofs.Halves.{Halves}
+use Rattle.combine.proofs.Steps.{Sources, sources}
 use borrow.Author.Needs.{needs}
-use Rattle.halves.proofs.message_left_certain.Statement.{statement}
-use Rattle.halves.proofs.message_left_certain.Tie as tie
+use Rattle.combine.proofs.message_left_certain.Statement.{statement}
+use Rattle.combine.proofs.message_left_certain.Tie as tie
 
 abbrev Inv-loop : tie.InvT-loop
 Inv-loop w₀ m x l h y r g k₀ w k = (k ≤ h) × Halves w₀ m x l h k w × (length w ≡ length w₀)

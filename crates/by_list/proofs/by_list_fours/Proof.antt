@@ -1,4 +1,4 @@
--- `halves::by_list_fours` meets its contract. The loop's invariant: the first k words of both halves are stored, and k is a multiple of 4. Assumes nothing.
+-- `by_list::by_list_fours` meets its contract. The loop's invariant: the first k words of both halves are stored, and k is a multiple of 4. Assumes nothing.
 use mathlib.Core.Path.{_≡_, refl, _∙_, subst}
 use Prim.Native.Nat.{ℕ, _+_, _-_, _%_, _≤_, _<_}
 use native.Mathlib.Omega.{arith}
@@ -6,10 +6,11 @@ use native.Mathlib.Nat.{le-antisymm}
 use lib.ListN.{length}
 use Rattle.words.specs.Words.{write}
 use Rattle.words.proofs.Signed.{back}
-use Rattle.halves.proofs.Steps.{Halves, ListPlace, list-place, halves-next}
+use Rattle.words.proofs.Halves.{Halves}
+use Rattle.by_list.proofs.Steps.{ListPlace, list-place, halves-next}
 use borrow.Author.Needs.{needs}
-use Rattle.halves.proofs.by_list_fours.Statement.{statement}
-use Rattle.halves.proofs.by_list_fours.Tie as tie
+use Rattle.by_list.proofs.by_list_fours.Statement.{statement}
+use Rattle.by_list.proofs.by_list_fours.Tie as tie
 
 abbrev Inv-loop : tie.InvT-loop
 Inv-loop w₀ m x l c h y r g k₀ w k = (k ≤ h) × Halves w₀ m x l h k w × (length w ≡ length w₀) × (k % 4 ≡ 0)

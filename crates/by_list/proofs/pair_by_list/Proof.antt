@@ -1,4 +1,4 @@
--- `halves::pair_by_list` meets its contract. Assumes nothing.
+-- `by_list::pair_by_list` meets its contract. Assumes nothing.
 use mathlib.Core.Path.{_≡_, sym, ap₂, _∙_, subst, subst₂}
 use Prim.Native.Nat.{_+_}
 use lib.IntN.{ℤ, _-ℤ_}
@@ -7,8 +7,8 @@ use mir.Syntax.{w32}
 use Rattle.words.specs.Words.{word, Word, Added, boxWord, addWord}
 use Rattle.words.proofs.Signed.{back}
 use borrow.Author.Needs.{needs}
-use Rattle.halves.proofs.pair_by_list.Statement.{statement}
-use Rattle.halves.proofs.pair_by_list.Tie as tie
+use Rattle.by_list.proofs.pair_by_list.Statement.{statement}
+use Rattle.by_list.proofs.pair_by_list.Tie as tie
 
 -- what is read
 list-is : (c : tie.After-list) → let a = c .before .args in toZ w32 (ofZ w32 (word (a .w .now) (a .c + a .k))) ≡ word (a .w .now) (a .c + a .k)

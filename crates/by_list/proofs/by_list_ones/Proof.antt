@@ -1,4 +1,4 @@
--- `halves::by_list_ones` meets its contract. The loop's invariant: the first k words of both halves are stored. Assumes nothing.
+-- `by_list::by_list_ones` meets its contract. The loop's invariant: the first k words of both halves are stored. Assumes nothing.
 use mathlib.Core.Path.{_≡_, refl, _∙_, subst}
 use Prim.Native.Nat.{ℕ, _-_, _≤_, _<_}
 use native.Mathlib.Omega.{arith}
@@ -8,10 +8,11 @@ use lib.ListN.{length, length-set}
 use Rattle.words.specs.Words.{write}
 use Rattle.words.proofs.Signed.{back}
 use Rattle.words.proofs.Store.{store-both}
-use Rattle.halves.proofs.Steps.{Halves, ListPlace, list-place}
+use Rattle.words.proofs.Halves.{Halves}
+use Rattle.by_list.proofs.Steps.{ListPlace, list-place}
 use borrow.Author.Needs.{needs}
-use Rattle.halves.proofs.by_list_ones.Statement.{statement}
-use Rattle.halves.proofs.by_list_ones.Tie as tie
+use Rattle.by_list.proofs.by_list_ones.Statement.{statement}
+use Rattle.by_list.proofs.by_list_ones.Tie as tie
 
 abbrev Inv-loop : tie.InvT-loop
 Inv-loop w₀ m x l c h y r g k₀ w k = (k ≤ h) × Halves w₀ m x l h k w × (length w ≡ length w₀)
