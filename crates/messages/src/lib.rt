@@ -8,23 +8,25 @@ use extrinsic::subtract;
 use words::fill;
 ghost use mathlib.Core.Path.{_≡_};
 ghost use mathlib.Core.Bool.{true};
+ghost use mathlib.Core.List.{List};
 ghost use Prim.Native.Nat.{_+_, _%_, _≤_};
 ghost use lib.ListN.{length};
+ghost use Rattle.model.specs.Soft.{Soft};
 ghost use Rattle.model.specs.Kinds.{shortcut, rate-0, rate-1, REP, SPC, type-I, type-III};
 ghost use Rattle.words.specs.Words.{soft, stored, Incoming};
 
-// The message of a rate-0 node: certain everywhere.
-pub fn rate_zero_message(w: &mut [i32], m: usize, x: usize, s: usize)
-    requires { ⌜ (m + s ≤ x) × (x + s ≤ length (now w)) ⌝ }
-    ensures { λ _. ⌜ now (w .exit) ≡ stored (now (w .entry)) m s (shortcut rate-0 s (soft (now (w .entry)) x s)) ⌝ }
+// The message of a rate-0 node: certain everywhere, whatever its incoming list L is.
+pub fn rate_zero_message(w: &mut [i32], m: usize, s: usize)
+    requires { ⌜ m + s ≤ length (now w) ⌝ }
+    ensures { λ _. ⌜ ((L : List Soft) → now (w .exit) ≡ stored (now (w .entry)) m s (shortcut rate-0 s L)) ⌝ }
 {
     fill(w, m, s, 2147483647);
 }
 
-// The message of a rate-1 node: 0 everywhere.
-pub fn rate_one_message(w: &mut [i32], m: usize, x: usize, s: usize)
-    requires { ⌜ (m + s ≤ x) × (x + s ≤ length (now w)) ⌝ }
-    ensures { λ _. ⌜ now (w .exit) ≡ stored (now (w .entry)) m s (shortcut rate-1 s (soft (now (w .entry)) x s)) ⌝ }
+// The message of a rate-1 node: 0 everywhere, whatever its incoming list L is.
+pub fn rate_one_message(w: &mut [i32], m: usize, s: usize)
+    requires { ⌜ m + s ≤ length (now w) ⌝ }
+    ensures { λ _. ⌜ ((L : List Soft) → now (w .exit) ≡ stored (now (w .entry)) m s (shortcut rate-1 s L)) ⌝ }
 {
     fill(w, m, s, 0);
 }
