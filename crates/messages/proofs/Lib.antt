@@ -1,6 +1,4 @@
-pub mod Classes
+pub mod Without
 pub mod Others
 pub mod Messages
-pub mod Columns
-pub mod Sizes
 pub mod Folded

@@ -13,10 +13,12 @@ use Rattle.model.specs.Soft.{Soft, finite, certain, softZero, _at_, box, plus, 
 use Rattle.model.specs.Kinds.{shortcut, others, rate-0, rate-1, REP, SPC, type-I, type-III}
 use Rattle.model.proofs.Lists.{getD-tabulate}
 use Rattle.words.specs.Words.{Word, word, soft, Words, Incoming}
-use Rattle.messages.specs.Sums.{strided, sumZ, sizes, least, next, parity, leaveOut, isOdd}
+use Rattle.classes.specs.Sums.{strided, sumZ, sizes, least, next, parity}
+use Rattle.extrinsic.specs.Values.{leaveOut, isOdd}
 use Rattle.words.proofs.Laws.{soft-at, soft-fin}
 use Rattle.words.proofs.Store.{lt-or-ge}
-use Rattle.messages.proofs.Classes.{strided-all, by-parity, rep-word, type-one-word, cond-same}
+use Rattle.classes.proofs.Classes.{strided-all}
+use Rattle.messages.proofs.Without.{by-parity, rep-word, type-one-word, cond-same}
 use Rattle.messages.proofs.Others.{sum-others-is, box-others-is, sizes-le}
 
 beyond : (l : List ℤ) (k : ℕ) → length l ≤ k → word l k ≡ pos 0

@@ -19,10 +19,12 @@ use Rattle.model.proofs.Lists.{total-ext, length-tabulate, getD-tabulate, eqb-s
 use Rattle.model.proofs.Algebra.{plus-monoid, box-monoid}
 use Rattle.model.proofs.Others.{full, keeps}
 use Rattle.words.specs.Words.{xor, Word, word}
-use Rattle.messages.specs.Sums.{without, strided, sumZ, sizes, least, next, parity, leaveOut}
+use Rattle.classes.specs.Sums.{strided, sumZ, sizes, least, next, parity}
+use Rattle.extrinsic.specs.Values.{leaveOut}
 use Rattle.model.proofs.Bounds.{abs-signed}
 use Rattle.words.proofs.Laws.{boxZ, boxℤ-is, box-mark-l, box-mark-r}
-use Rattle.messages.proofs.Classes.{xor-none, sign-min, least-mark, next-mark, least-others, parity-others}
+use Rattle.classes.proofs.Classes.{xor-none, least-mark, next-mark}
+use Rattle.messages.proofs.Without.{without, sign-min, least-others, parity-others}
 
 -- ---- classes of places
 mod-two : (j : ℕ) → (j % 2 ≡ 0) ⊎ (j % 2 ≡ 1)

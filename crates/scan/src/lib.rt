@@ -1,10 +1,10 @@
 // The planned walk over one lent workspace.
+use by_list::message_by_list;
+use combine::message_left_certain;
+use combine::message_right_zero;
+use combine::node_message;
 use halves::box_at;
 use halves::box_plus;
-use halves::message_by_list;
-use halves::message_left_certain;
-use halves::message_right_zero;
-use halves::node_message;
 use halves::plus_at;
 use halves::plus_box;
 use kinds::Kind;
@@ -43,8 +43,8 @@ fn cut_message(w: &mut [i32], k: Kind, m: usize, x: usize, s: usize)
     ensures { λ _. ⌜ now (w .exit) ≡ cutWords (kindNamed k) (now (w .entry)) m x s ⌝ }
 {
     match k {
-        Kind::Rate0 => rate_zero_message(w, m, x, s),
-        Kind::Rate1 => rate_one_message(w, m, x, s),
+        Kind::Rate0 => rate_zero_message(w, m, s),
+        Kind::Rate1 => rate_one_message(w, m, s),
         Kind::Rep => rep_message(w, m, x, s),
         Kind::Spc => spc_message(w, m, x, s),
         Kind::TypeI => type_one_message(w, m, x, s),

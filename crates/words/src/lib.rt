@@ -1,8 +1,8 @@
-// 32-bit words that hold soft values: their sum, difference and box, and the loops that load, fill and copy them.
+// 32-bit words that hold soft values: their size, sum, difference and box, and the loops that load, fill and copy them.
 ghost use mathlib.Core.Path.{_≡_};
 ghost use mathlib.Core.Bool.{cond};
 ghost use Prim.Native.Nat.{_+_, _<_, _≤_};
-ghost use lib.IntN.{_-ℤ_};
+ghost use lib.IntN.{pos, natAbs, _-ℤ_};
 ghost use lib.Signed.{ltZ};
 ghost use lib.ListN.{length};
 ghost use Rattle.words.specs.Words.{boxWord, addWord, Word, Added, word, write, four, Finite};
@@ -19,6 +19,21 @@ pub fn max_word(a: i32, b: i32) -> i32
     ensures { λ r. ⌜ r ≡ cond (ltZ a b) b a ⌝ }
 {
     if a < b { b } else { a }
+}
+
+// The size of a word, as a word and as an unsigned number.
+pub fn abs_word(a: i32) -> i32
+    requires { ⌜ Word a ⌝ }
+    ensures { λ r. ⌜ r ≡ pos (natAbs a) ⌝ }
+{
+    if a < 0 { -a } else { a }
+}
+
+pub fn size_word(a: i32) -> u32
+    requires { ⌜ Word a ⌝ }
+    ensures { λ r. ⌜ r ≡ natAbs a ⌝ }
+{
+    abs_word(a) as u32
 }
 
 pub fn box_words(a: i32, b: i32) -> i32

@@ -1,7 +1,6 @@
 -- `messages::rate_zero_message` meets its contract: the word of each value is the mark. Assumes nothing.
 use mathlib.Core.Path.{_∙_}
 use lib.IntN.{pos}
-use Rattle.words.specs.Words.{soft}
 use Rattle.words.proofs.Store.{write-ext}
 use Rattle.messages.proofs.Messages.{zero-value}
 use borrow.Author.Needs.{needs}
@@ -15,9 +14,9 @@ same-length : tie.Need-same-length
 same-length c = search needs
 
 returns : tie.Need-returns
-returns c =
+returns c L =
     let a = c .before .before .before .args in
-    c .before .fill .ensures ∙ write-ext (pos 0) (a .w .now) (a .m) (a .s) _ _ (zero-value (a .s) (soft (a .w .now) (a .x) (a .s)))
+    c .before .fill .ensures ∙ write-ext (pos 0) (a .w .now) (a .m) (a .s) _ _ (zero-value (a .s) L)
 
 pub rate-zero-message-spec : {M : Type 1} → statement M
 rate-zero-message-spec = tie.close (tie.spec fill-requires same-length returns)

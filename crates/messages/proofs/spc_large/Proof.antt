@@ -4,8 +4,9 @@ use mathlib.Core.Bool.{cond}
 use Prim.Native.Nat.{ℕ, _+_}
 use native.Mathlib.Omega.{arith}
 use Rattle.words.specs.Words.{word, write}
-use Rattle.messages.specs.Sums.{isOdd, leaveOut, strided, least, next, parity}
-use Rattle.messages.proofs.Classes.{least-mark, next-mark}
+use Rattle.classes.specs.Sums.{strided, least, next, parity}
+use Rattle.extrinsic.specs.Values.{isOdd, leaveOut}
+use Rattle.classes.proofs.Classes.{least-mark, next-mark}
 use Rattle.messages.proofs.Messages.{partOf, words-in, spc-value}
 use Rattle.messages.proofs.Folded.{Scratch, quarter-all, folded-length, folded-fits, list-kept, words-kept, message-over, part-four, low-holds, high-holds, low-sizes}
 use borrow.Author.Needs.{needs}

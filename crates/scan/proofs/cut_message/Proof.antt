@@ -3,6 +3,7 @@ use mathlib.Core.Path.{sym, ap, _∙_}
 use Rattle.kinds.specs.declared.Kind.{Kind}
 use Rattle.kinds.specs.Runs.{kindNamed}
 use Rattle.model.specs.Plans.{isRate01}
+use Rattle.words.specs.Words.{soft}
 use Rattle.scan.specs.Space.{cutWords}
 use borrow.Author.Needs.{needs}
 use Rattle.scan.proofs.cut_message.Statement.{statement}
@@ -61,7 +62,7 @@ same-length c = search needs
 returns : tie.Need-returns
 returns c =
     let a = c .before .before .before .before .before .args in
-    c .before .rate-zero-message .ensures ∙ sym (ap (λ (k : Kind). cutWords (kindNamed k) (a .w .now) (a .m) (a .x) (a .s)) (c .before .before .before .enum-told .given .1))
+    c .before .rate-zero-message .ensures (soft (a .w .now) (a .x) (a .s)) ∙ sym (ap (λ (k : Kind). cutWords (kindNamed k) (a .w .now) (a .m) (a .x) (a .s)) (c .before .before .before .enum-told .given .1))
 
 same-length-2 : tie.Need-same-length-2
 same-length-2 c = search needs
@@ -69,7 +70,7 @@ same-length-2 c = search needs
 returns-2 : tie.Need-returns-2
 returns-2 c =
     let a = c .before .before .before .before .before .args in
-    c .before .rate-one-message .ensures ∙ sym (ap (λ (k : Kind). cutWords (kindNamed k) (a .w .now) (a .m) (a .x) (a .s)) (c .before .before .before .enum-told2 .given .1))
+    c .before .rate-one-message .ensures (soft (a .w .now) (a .x) (a .s)) ∙ sym (ap (λ (k : Kind). cutWords (kindNamed k) (a .w .now) (a .m) (a .x) (a .s)) (c .before .before .before .enum-told2 .given .1))
 
 same-length-3 : tie.Need-same-length-3
 same-length-3 c = search needs

@@ -1,12 +1,9 @@
 -- `words::add_finite` meets its contract: the sum of two words that are not the mark is the sum of their numbers. Assumes nothing.
-use mathlib.Core.Path.{_≡_, sym, ap, ap₂, _∙_, subst}
-use Prim.Native.Nat.{_<_}
-use native.Mathlib.Omega.{arith}
-use lib.IntN.{ℤ, pos, natAbs, _+ℤ_}
+use mathlib.Core.Path.{_≡_, sym, ap₂, _∙_, subst}
+use lib.IntN.{ℤ, _+ℤ_}
 use mir.Val.{SFits, toZ, ofZ}
 use mir.Syntax.{w32}
 use mir.Facts.{toZ-ofZ}
-use Rattle.model.specs.Soft.{mark}
 use Rattle.words.specs.Words.{addWord}
 use Rattle.words.proofs.Signed.{fits-word}
 use Rattle.words.proofs.Laws.{addWord-fin, not-mark}

@@ -1,0 +1,222 @@
+-- `classes::fold` meets its contract. The loop's invariant: the first k values of both runs are stored. Assumes nothing.
+use mathlib.Core.Path.{_≡_, refl, ap, _∙_}
+use mathlib.Core.List.{List}
+use Prim.Native.Nat.{ℕ, _+_, _-_, _*_, _≤_, _<_}
+use native.Mathlib.Nat.{le-antisymm}
+use native.Mathlib.Omega.{arith}
+use lib.IntN.{ℤ, pos, natAbs}
+use lib.ListN.{length, drop, length-set}
+use lib.Seq.{getD-drop}
+use mir.Val.{toZ, ofZ}
+use mir.Syntax.{w32}
+use Rattle.model.specs.Soft.{negative}
+use Rattle.words.specs.Words.{Word, word, write}
+use Rattle.classes.specs.Sums.{least, next, parity}
+use Rattle.classes.specs.Folds.{fourList, keepSign, lowAt, highAt}
+use Rattle.words.proofs.Signed.{back}
+use Rattle.words.proofs.Store.{store-none, store-both}
+use Rattle.classes.proofs.Columns.{list-at}
+use borrow.Author.Needs.{needs}
+use Rattle.classes.proofs.fold.Statement.{statement}
+use Rattle.classes.proofs.fold.Tie as tie
+
+abbrev Inv-loop : tie.InvT-loop
+Inv-loop w₀ m x q n x1 x2 x3 k₀ w k = (k ≤ q) × (w ≡ write (write w₀ m k (lowAt (drop x w₀) q)) (m + q) k (highAt (drop x w₀) q)) × (length w ≡ length w₀)
+
+abbrev μ-loop : tie.MeasureT-loop
+μ-loop w₀ m x q n x1 x2 x3 k₀ w k = q - k
+
+add-n : tie.Need-add-n Inv-loop μ-loop
+add-n c = search needs
+
+add-x1 : tie.Need-add-x1 Inv-loop μ-loop
+add-x1 c = search needs
+
+add-x2 : tie.Need-add-x2 Inv-loop μ-loop
+add-x2 c = search needs
+
+add-x3 : tie.Need-add-x3 Inv-loop μ-loop
+add-x3 c = search needs
+
+loop-holds : tie.Need-loop-holds Inv-loop μ-loop
+loop-holds c =
+    let a = c .args in
+    let l = drop (a .x) (a .w .now) in
+    (omega arith, store-none (pos 0) (a .w .now) (a .m) (lowAt l (a .q)) ∙ store-none (pos 0) (write (a .w .now) (a .m) 0 (lowAt l (a .q))) (a .m + a .q) (highAt l (a .q)), refl)
+
+add-a : tie.Need-add-a Inv-loop μ-loop
+add-a c = search needs
+
+mul-a : tie.Need-mul-a Inv-loop μ-loop
+mul-a c = search needs
+
+slice-copy-out-a : tie.Need-slice-copy-out-a Inv-loop μ-loop
+slice-copy-out-a c = search needs
+
+add-b : tie.Need-add-b Inv-loop μ-loop
+add-b c = search needs
+
+mul-b : tie.Need-mul-b Inv-loop μ-loop
+mul-b c = search needs
+
+slice-copy-out-b : tie.Need-slice-copy-out-b Inv-loop μ-loop
+slice-copy-out-b c = search needs
+
+add-c : tie.Need-add-c Inv-loop μ-loop
+add-c c = search needs
+
+mul-c : tie.Need-mul-c Inv-loop μ-loop
+mul-c c = search needs
+
+slice-copy-out-c : tie.Need-slice-copy-out-c Inv-loop μ-loop
+slice-copy-out-c c = search needs
+
+add-d : tie.Need-add-d Inv-loop μ-loop
+add-d c = search needs
+
+mul-d : tie.Need-mul-d Inv-loop μ-loop
+mul-d c = search needs
+
+slice-copy-out-d : tie.Need-slice-copy-out-d Inv-loop μ-loop
+slice-copy-out-d c = search needs
+
+-- the words that a turn reads are the list's
+list-is : (c : tie.After-d Inv-loop μ-loop) (j i : ℕ) → let b = c .before .before .before .before .before in b .before .args .x + i ≡ j → word (b .loop .w) j ≡ word (drop (b .before .args .x) (b .before .args .w .now)) i
+list-is c j i e =
+    let b = c .before .before .before .before .before in
+    let a = b .before .args in
+    let l = drop (a .x) (a .w .now) in
+    list-at (a .w .now) (b .loop .w) (a .m) (a .x) (a .q) (b .loop .k) (lowAt l (a .q)) (highAt l (a .q)) (b .before .pre .0 .0) (b .loop .inv .0) (b .loop .inv .1) j i e
+
+module _ (c : tie.After-d Inv-loop μ-loop) where
+  abbrev loop-at : tie.At-loop Inv-loop μ-loop
+  loop-at = c .before .before .before .before .before
+
+  abbrev list : List ℤ
+  list = drop (loop-at .before .args .x) (loop-at .before .args .w .now)
+
+  abbrev width : ℕ
+  width = loop-at .before .args .q
+
+  abbrev turn : ℕ
+  turn = loop-at .loop .k
+
+  a-is : toZ w32 (ofZ w32 (word (loop-at .loop .w) (loop-at .before .args .x + turn))) ≡ word list turn
+  a-is = back (c .before .before .before .a .given) ∙ list-is c (loop-at .before .args .x + turn) turn refl
+
+  b-is : toZ w32 (ofZ w32 (word (loop-at .loop .w) (loop-at .before .args .x + width + turn))) ≡ word list (width + turn)
+  b-is = back (c .before .before .b .given) ∙ list-is c (loop-at .before .args .x + width + turn) (width + turn) (omega arith)
+
+  c-is : toZ w32 (ofZ w32 (word (loop-at .loop .w) (loop-at .before .args .x + width + width + turn))) ≡ word list (2 * width + turn)
+  c-is = back (c .before .c .given) ∙ list-is c (loop-at .before .args .x + width + width + turn) (2 * width + turn) (omega arith)
+
+  d-is : toZ w32 (ofZ w32 (word (loop-at .loop .w) (loop-at .before .args .x + width + width + width + turn))) ≡ word list (3 * width + turn)
+  d-is = back (c .d .given) ∙ list-is c (loop-at .before .args .x + width + width + width + turn) (3 * width + turn) (omega arith)
+
+  list-word : (i : ℕ) → i < 4 * width → Word (word list i)
+  list-word i h = rw (getD-drop (loop-at .before .args .x) (loop-at .before .args .w .now) i (pos 0)) (loop-at .before .pre .1 i h)
+
+least-of-requires : tie.Need-least-of-requires Inv-loop μ-loop
+least-of-requires c κs =
+    let lt = c .before .before .before .before .loop-test .taken in
+    (rw (a-is c) (list-word c _ (omega arith)), rw (b-is c) (list-word c _ (omega arith)), rw (c-is c) (list-word c _ (omega arith)), rw (d-is c) (list-word c _ (omega arith)))
+
+parity-of-requires : tie.Need-parity-of-requires Inv-loop μ-loop
+parity-of-requires c κs = search needs
+
+next-of-requires : tie.Need-next-of-requires Inv-loop μ-loop
+next-of-requires c κs =
+    let lt = (c .before .before) .before .before .before .before .loop-test .taken in
+    (rw (a-is (c .before .before)) (list-word (c .before .before) _ (omega arith)), rw (b-is (c .before .before)) (list-word (c .before .before) _ (omega arith)), rw (c-is (c .before .before)) (list-word (c .before .before) _ (omega arith)), rw (d-is (c .before .before)) (list-word (c .before .before) _ (omega arith)))
+
+keep-sign-requires : tie.Need-keep-sign-requires Inv-loop μ-loop
+keep-sign-requires c κs = ap negative (back (c .next-of .ok) ∙ c .next-of .ensures)
+
+add-low : tie.Need-add-low Inv-loop μ-loop
+add-low c = search needs
+
+mul-low : tie.Need-mul-low Inv-loop μ-loop
+mul-low c = search needs
+
+slice-set-from-low : tie.Need-slice-set-from-low Inv-loop μ-loop
+slice-set-from-low c = search needs
+
+add-high : tie.Need-add-high Inv-loop μ-loop
+add-high c = search needs
+
+mul-high : tie.Need-mul-high Inv-loop μ-loop
+mul-high c = search needs
+
+slice-set-from-high : tie.Need-slice-set-from-high Inv-loop μ-loop
+slice-set-from-high c = simp length-set (omega arith)
+
+add-k : tie.Need-add-k Inv-loop μ-loop
+add-k c = search needs
+
+loop-less : tie.Need-loop-less Inv-loop μ-loop
+loop-less c = search needs
+
+loop-again : tie.Need-loop-again Inv-loop μ-loop
+loop-again c =
+    let at-d = c .before .before .before .before in
+    let b = c .before .before .before .before .before .before .before .before .before in
+    let a = b .before .args in
+    let l = drop (a .x) (a .w .now) in (
+      omega arith,
+      store-both (pos 0) (a .w .now) (b .loop .w) (a .m) (a .q) (b .loop .k) _ _ (lowAt l (a .q)) (highAt l (a .q)) (c .before .before .before .before .before .before .before .before .loop-test .taken) (b .loop .inv .1)
+          (back (c .before .before .before .least-of .ok) ∙ c .before .before .before .least-of .ensures ∙ (λ i. pos (least (fourList (a-is at-d i) (b-is at-d i) (c-is at-d i) (d-is at-d i)))))
+          (back (c .keep-sign .ok) ∙ c .keep-sign .ensures
+          ∙ (λ i. keepSign (c .before .before .parity-of .ensures i) (natAbs ((back (c .before .next-of .ok) ∙ c .before .next-of .ensures) i)))
+          ∙ (λ i. keepSign (parity (fourList (a-is at-d i) (b-is at-d i) (c-is at-d i) (d-is at-d i))) (next (fourList (a-is at-d i) (b-is at-d i) (c-is at-d i) (d-is at-d i))))),
+      simp length-set (b .loop .inv .2),
+    )
+
+same-length : tie.Need-same-length Inv-loop μ-loop
+same-length c = c .before .loop .inv .2
+
+returns : tie.Need-returns Inv-loop μ-loop
+returns c =
+    let b = c .before in
+    let a = b .before .args in
+    let l = drop (a .x) (a .w .now) in
+    b .loop .inv .1
+    ∙ ap (λ (n : ℕ). write (write (a .w .now) (a .m) n (lowAt l (a .q))) (a .m + a .q) n (highAt l (a .q))) (le-antisymm (b .loop .inv .0) (c .loop-test .left))
+
+pub fold-spec : {M : Type 1} → statement M
+fold-spec =
+    tie.close
+    (tie.spec
+    Inv-loop
+    μ-loop
+    add-n
+    add-x1
+    add-x2
+    add-x3
+    loop-holds
+    add-a
+    mul-a
+    slice-copy-out-a
+    add-b
+    mul-b
+    slice-copy-out-b
+    add-c
+    mul-c
+    slice-copy-out-c
+    add-d
+    mul-d
+    slice-copy-out-d
+    least-of-requires
+    parity-of-requires
+    next-of-requires
+    keep-sign-requires
+    add-low
+    mul-low
+    slice-set-from-low
+    add-high
+    mul-high
+    slice-set-from-high
+    add-k
+    loop-less
+    loop-again
+    same-length
+    returns)

@@ -1,0 +1,172 @@
+// What is gathered over a class of places of a node's incoming list: sums, the two least sizes, the product of the signs.
+use words::abs_word;
+use words::max_word;
+use words::min_word;
+use words::size_word;
+ghost use mathlib.Core.Path.{_≡_};
+ghost use mathlib.Core.Bool.{false};
+ghost use mathlib.Core.List.{List};
+ghost use Prim.Native.Nat.{ℕ, _+_, _*_, _%_, _<_, _≤_, min, max};
+ghost use lib.IntN.{ℤ, pos, natAbs};
+ghost use lib.Signed.{mag};
+ghost use lib.ListN.{length, drop};
+ghost use Rattle.model.specs.Soft.{mark, negative};
+ghost use Rattle.words.specs.Words.{Word, word, write, Words, Holds};
+ghost use Rattle.classes.specs.Sums.{strided, sumZ, sizes, least, next, parity};
+ghost use Rattle.classes.specs.Folds.{fourList, keepSign, lowAt, highAt};
+
+fn min_size(a: u32, b: u32) -> u32
+    ensures { λ r. ⌜ r ≡ min a b ⌝ }
+{
+    if a < b { a } else { b }
+}
+
+fn max_size(a: u32, b: u32) -> u32
+    ensures { λ r. ⌜ r ≡ max a b ⌝ }
+{
+    if a < b { b } else { a }
+}
+
+// The sum over the places c, c + d + 1, ..
+pub fn class_sum(l: &[i32], d: usize, c: usize) -> i32
+    requires { ⌜ (d ≤ 1) × (c ≤ d) ⌝ }
+    requires { ⌜ sizes (strided d c (now l)) ≤ mark ⌝ }
+    ensures { λ r. ⌜ r ≡ sumZ (strided d c (now (l .entry))) ⌝ }
+{
+    let mut t = 0i32;
+    let mut i = c;
+    while i < l.len() {
+        t += l[i];
+        i += d + 1;
+    }
+    t
+}
+
+// What is gathered for SPC: the least size, the one next to it, and whether the product of the signs is negative.
+pub struct Gathered {
+    pub least: u32,
+    pub next: u32,
+    pub neg: bool,
+}
+
+// The two least sizes and the parity of the signs, over the places c, c + d + 1, ..
+pub fn gather(l: &[i32], d: usize, c: usize) -> Gathered
+    requires { ⌜ (d ≤ 1) × (c ≤ d) ⌝ }
+    requires { ⌜ ((k : ℕ) → Word (word (now l) k)) ⌝ }
+    ensures { λ r. ⌜ (r .least ≡ least (strided d c (now (l .entry)))) × (r .next ≡ next (strided d c (now (l .entry)))) × (r .neg ≡ parity (strided d c (now (l .entry)))) ⌝ }
+{
+    let mut m1 = 2147483647u32;
+    let mut m2 = 2147483647u32;
+    let mut neg = false;
+    let mut i = c;
+    while i < l.len() {
+        let x = l[i];
+        let s = size_word(x);
+        m2 = min_size(m2, max_size(s, m1));
+        m1 = min_size(s, m1);
+        neg = (x < 0) != neg;
+        i += d + 1;
+    }
+    Gathered {
+        least: m1,
+        next: m2,
+        neg,
+    }
+}
+
+// The least size of four words.
+fn least_of(a: i32, b: i32, c: i32, d: i32) -> i32
+    requires { ⌜ Word a × Word b × Word c × Word d ⌝ }
+    ensures { λ r. ⌜ r ≡ pos (least (fourList a b c d)) ⌝ }
+{
+    let low = min_word(abs_word(a), abs_word(b));
+    let low2 = min_word(abs_word(c), abs_word(d));
+    min_word(low, low2)
+}
+
+// The size next to the least one of four words.
+fn next_of(a: i32, b: i32, c: i32, d: i32) -> i32
+    requires { ⌜ Word a × Word b × Word c × Word d ⌝ }
+    ensures { λ r. ⌜ r ≡ pos (next (fourList a b c d)) ⌝ }
+{
+    let sa = abs_word(a);
+    let sb = abs_word(b);
+    let sc = abs_word(c);
+    let sd = abs_word(d);
+    let lows = max_word(min_word(sa, sb), min_word(sc, sd));
+    let highs = min_word(max_word(sa, sb), max_word(sc, sd));
+    min_word(lows, highs)
+}
+
+// Whether the product of the signs of four words is negative.
+fn parity_of(a: i32, b: i32, c: i32, d: i32) -> bool
+    ensures { λ r. ⌜ r ≡ parity (fourList a b c d) ⌝ }
+{
+    ((a < 0) != (b < 0)) != ((c < 0) != (d < 0))
+}
+
+// The size n with a sign: -1 - n if neg, else n.
+fn keep_sign(neg: bool, n: i32) -> i32
+    requires { ⌜ negative n ≡ false ⌝ }
+    ensures { λ r. ⌜ r ≡ keepSign neg (natAbs n) ⌝ }
+{
+    if neg { -1 - n } else { n }
+}
+
+// The size that was kept with a sign.
+fn kept_size(x: i32) -> u32
+    ensures { λ r. ⌜ r ≡ mag x ⌝ }
+{
+    if x < 0 { (-1 - x) as u32 } else { x as u32 }
+}
+
+// Folds the four quarters of the list at x, each of q words: w[m + k] is the least size at place k of the quarters, and w[m + q + k] the next one with the product of the signs.
+pub fn fold(w: &mut [i32], m: usize, x: usize, q: usize)
+    requires { ⌜ (m + 4 * q ≤ x) × (x + 4 * q ≤ length (now w)) ⌝ }
+    requires { ⌜ Words (now w) x (4 * q) ⌝ }
+    ensures { λ _. ⌜ now (w .exit) ≡ write (write (now (w .entry)) m q (lowAt (drop x (now (w .entry))) q)) (m + q) q (highAt (drop x (now (w .entry))) q) ⌝ }
+{
+    let n = m + q;
+    let x1 = x + q;
+    let x2 = x1 + q;
+    let x3 = x2 + q;
+    let mut k = 0;
+    while k < q {
+        let a = w[x + k];
+        let b = w[x1 + k];
+        let c = w[x2 + k];
+        let d = w[x3 + k];
+        let low = least_of(a, b, c, d);
+        let high = keep_sign(parity_of(a, b, c, d), next_of(a, b, c, d));
+        w[m + k] = low;
+        w[n + k] = high;
+        k += 1;
+    }
+}
+
+// The two least sizes and the parity of the signs over the places c, c + d + 1, .. of a list, from what folding its quarters left at m.
+pub fn gather_folded(w: &[i32], m: usize, q: usize, d: usize, c: usize) -> Gathered
+    requires { ⌜ (d ≤ 1) × (c ≤ d) × (q % (d + 1) ≡ 0) × (m + q + q ≤ length (now w)) ⌝ }
+    requires { ⌜ ((k : ℕ) → k < q → negative (word (now w) (m + k)) ≡ false) ⌝ }
+    ensures { λ r. ⌜ ((l : List ℤ) → length l ≡ 4 * q → Holds (now (w .entry)) m q (lowAt l q) → Holds (now (w .entry)) (m + q) q (highAt l q) → (r .least ≡ least (strided d c l)) × (r .next ≡ next (strided d c l)) × (r .neg ≡ parity (strided d c l))) ⌝ }
+{
+    let n = m + q;
+    let mut m1 = 2147483647u32;
+    let mut m2 = 2147483647u32;
+    let mut neg = false;
+    let mut i = c;
+    while i < q {
+        let low = w[m + i] as u32;
+        let x = w[n + i];
+        let high = kept_size(x);
+        m2 = min_size(min_size(m2, high), max_size(low, m1));
+        m1 = min_size(low, m1);
+        neg = (x < 0) != neg;
+        i += d + 1;
+    }
+    Gathered {
+        least: m1,
+        next: m2,
+        neg,
+    }
+}

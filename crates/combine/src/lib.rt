@@ -1,0 +1,70 @@
+// The message of an uncut node, from its incoming list and its children's messages, on words.
+use words::add_words;
+use words::box_words;
+ghost use mathlib.Core.Path.{_≡_};
+ghost use Prim.Native.Nat.{_+_, _≤_};
+ghost use lib.IntN.{pos};
+ghost use lib.ListN.{length};
+ghost use Rattle.model.specs.Soft.{mark};
+ghost use Rattle.words.specs.Words.{write, Holds, boxPlus, plusBox, Words, Sums, BoxSums};
+
+// The message of a node of size 2h, stored at m: its incoming list is at x, its left child's message at l and its right child's at l + h.
+// w[m + k] = box(w[l + k], w[x + h + k] + w[l + h + k]) and w[m + h + k] = box(w[x + k], w[l + k]) + w[l + h + k]
+pub fn node_message(w: &mut [i32], m: usize, x: usize, l: usize, h: usize)
+    requires { ⌜ (l + (h + h) ≤ m) × (m + (h + h) ≤ x) × (x + (h + h) ≤ length (now w)) ⌝ }
+    requires { ⌜ Words (now w) x h × Words (now w) l h × Sums (now w) (x + h) (l + h) h × BoxSums (now w) x l (l + h) h ⌝ }
+    ensures { λ _. ⌜ now (w .exit) ≡ write (write (now (w .entry)) m h (boxPlus (now (w .entry)) l (x + h) (l + h))) (m + h) h (plusBox (now (w .entry)) x l (l + h)) ⌝ }
+{
+    let y = x + h;
+    let r = l + h;
+    let g = m + h;
+    let mut k = 0;
+    while k < h {
+        let first = w[x + k];
+        let second = w[y + k];
+        let left = w[l + k];
+        let right = w[r + k];
+        w[m + k] = box_words(left, add_words(second, right));
+        w[g + k] = add_words(box_words(first, left), right);
+        k += 1;
+    }
+}
+
+// The same message, where the left child's is certain everywhere: a box with it is the other word.
+pub fn message_left_certain(w: &mut [i32], m: usize, x: usize, l: usize, h: usize)
+    requires { ⌜ (l + (h + h) ≤ m) × (m + (h + h) ≤ x) × (x + (h + h) ≤ length (now w)) ⌝ }
+    requires { ⌜ Words (now w) x h × Sums (now w) (x + h) (l + h) h × BoxSums (now w) x l (l + h) h × Holds (now w) l h (λ k. pos mark) ⌝ }
+    ensures { λ _. ⌜ now (w .exit) ≡ write (write (now (w .entry)) m h (boxPlus (now (w .entry)) l (x + h) (l + h))) (m + h) h (plusBox (now (w .entry)) x l (l + h)) ⌝ }
+{
+    let y = x + h;
+    let r = l + h;
+    let g = m + h;
+    let mut k = 0;
+    while k < h {
+        let first = w[x + k];
+        let second = w[y + k];
+        let right = w[r + k];
+        w[m + k] = add_words(second, right);
+        w[g + k] = add_words(first, right);
+        k += 1;
+    }
+}
+
+// The same message, where the right child's is 0 everywhere: nothing is right.
+pub fn message_right_zero(w: &mut [i32], m: usize, x: usize, l: usize, h: usize)
+    requires { ⌜ (l + (h + h) ≤ m) × (m + (h + h) ≤ x) × (x + (h + h) ≤ length (now w)) ⌝ }
+    requires { ⌜ Words (now w) x h × Words (now w) (x + h) h × Words (now w) l h × Holds (now w) (l + h) h (λ k. pos 0) ⌝ }
+    ensures { λ _. ⌜ now (w .exit) ≡ write (write (now (w .entry)) m h (boxPlus (now (w .entry)) l (x + h) (l + h))) (m + h) h (plusBox (now (w .entry)) x l (l + h)) ⌝ }
+{
+    let y = x + h;
+    let g = m + h;
+    let mut k = 0;
+    while k < h {
+        let first = w[x + k];
+        let second = w[y + k];
+        let left = w[l + k];
+        w[m + k] = box_words(left, second);
+        w[g + k] = box_words(first, left);
+        k += 1;
+    }
+}
