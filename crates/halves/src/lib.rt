@@ -3,12 +3,15 @@ use words::add_finite;
 use words::add_words;
 use words::box_words;
 ghost use mathlib.Core.Path.{_≡_};
+ghost use mathlib.Core.Bool.{true, false, cond};
 ghost use Prim.Native.Nat.{ℕ, _+_, _<_, _≤_};
+ghost use lib.IntN.{pos};
 ghost use lib.ListN.{length};
-ghost use Rattle.words.specs.Words.{word, write, Apart, boxAt, plusAt, boxPlus, plusBox, plusFront, Words, Finite, FiniteSums, Sums, FiniteBoxSums};
+ghost use Rattle.model.specs.Soft.{mark};
+ghost use Rattle.words.specs.Words.{word, write, Apart, Holds, boxAt, plusAt, boxPlus, plusBox, plusFront, Words, Finite, FiniteSums, Sums, FiniteBoxSums};
 
 // w[d + k] = box(w[a + k], w[b + k] + w[c + k])
-pub fn box_plus(w: &mut [i32], d: usize, a: usize, b: usize, c: usize, h: usize)
+fn box_plus(w: &mut [i32], d: usize, a: usize, b: usize, c: usize, h: usize)
     requires { ⌜ (d + h ≤ length (now w)) × (a + h ≤ length (now w)) × (b + h ≤ length (now w)) × (c + h ≤ length (now w)) ⌝ }
     requires { ⌜ Apart h d a × Apart h d b × Apart h d c ⌝ }
     requires { ⌜ Words (now w) a h × Sums (now w) b c h ⌝ }
@@ -22,7 +25,7 @@ pub fn box_plus(w: &mut [i32], d: usize, a: usize, b: usize, c: usize, h: usize)
 }
 
 // w[d + k] = box(w[a + k], w[b + k])
-pub fn box_at(w: &mut [i32], d: usize, a: usize, b: usize, h: usize)
+fn box_at(w: &mut [i32], d: usize, a: usize, b: usize, h: usize)
     requires { ⌜ (d + h ≤ length (now w)) × (a + h ≤ length (now w)) × (b + h ≤ length (now w)) ⌝ }
     requires { ⌜ Apart h d a × Apart h d b ⌝ }
     requires { ⌜ Words (now w) a h × Words (now w) b h ⌝ }
@@ -36,7 +39,7 @@ pub fn box_at(w: &mut [i32], d: usize, a: usize, b: usize, h: usize)
 }
 
 // w[d + k] = w[a + k] + w[b + k]
-pub fn plus_at(w: &mut [i32], d: usize, a: usize, b: usize, h: usize)
+fn plus_at(w: &mut [i32], d: usize, a: usize, b: usize, h: usize)
     requires { ⌜ (d + h ≤ length (now w)) × (a + h ≤ length (now w)) × (b + h ≤ length (now w)) ⌝ }
     requires { ⌜ Apart h d a × Apart h d b ⌝ }
     requires { ⌜ FiniteSums (now w) a b h ⌝ }
@@ -63,7 +66,7 @@ fn add_front(part: &mut [i32], d: usize, h: usize)
 }
 
 // w[d + k] = box(w[a + k], w[b + k]) + w[c + k]. What is added last is handed on as the part that starts at c.
-pub fn plus_box(w: &mut [i32], d: usize, a: usize, b: usize, c: usize, h: usize)
+fn plus_box(w: &mut [i32], d: usize, a: usize, b: usize, c: usize, h: usize)
     requires { ⌜ (d + h ≤ length (now w)) × (a + h ≤ length (now w)) × (b + h ≤ length (now w)) × (c + h ≤ d) ⌝ }
     requires { ⌜ Apart h d a × Apart h d b ⌝ }
     requires { ⌜ Words (now w) a h × Words (now w) b h × FiniteBoxSums (now w) a b c h ⌝ }
@@ -72,4 +75,35 @@ pub fn plus_box(w: &mut [i32], d: usize, a: usize, b: usize, c: usize, h: usize)
     box_at(w, d, a, b, h);
     let far = d - c;
     add_front(&mut w[c..], far, h);
+}
+
+// The incoming list of the left child, at c: the node's is at x, the right child's message at r. In the first sweep nothing stored is read: before it the
+// message of a right child of two positions or more is 0 by definition. A right leaf's may be certain then, but where the children are leaves both are
+// cut, and a cut leaf's incoming list is not made.
+pub fn left_list(w: &mut [i32], first: bool, c: usize, x: usize, r: usize, h: usize)
+    requires { ⌜ (r + h ≤ x) × (x + (h + h) ≤ c) × (c + h ≤ length (now w)) ⌝ }
+    requires { ⌜ Words (now w) x h × Words (now w) (x + h) h × (first ≡ false → Sums (now w) (x + h) r h) ⌝ }
+    ensures { λ _. ⌜ now (w .exit) ≡ write (now (w .entry)) c h (cond first (boxAt (now (w .entry)) x (x + h)) (boxPlus (now (w .entry)) x (x + h) r)) ⌝ }
+{
+    let y = x + h;
+    if first {
+        box_at(w, c, x, y, h);
+    } else {
+        box_plus(w, c, x, y, r, h);
+    }
+}
+
+// The incoming list of the right child, at c: the node's is at x, the left child's message at l, which may be known to be certain everywhere.
+pub fn right_list(w: &mut [i32], certain: bool, c: usize, x: usize, l: usize, h: usize)
+    requires { ⌜ (l + h ≤ x) × (x + (h + h) ≤ c) × (c + h ≤ length (now w)) ⌝ }
+    requires { ⌜ Words (now w) x h × Words (now w) l h × FiniteBoxSums (now w) x l (x + h) h ⌝ }
+    requires { ⌜ (certain ≡ true → Holds (now w) l h (λ k. pos mark)) ⌝ }
+    ensures { λ _. ⌜ now (w .exit) ≡ write (now (w .entry)) c h (plusBox (now (w .entry)) x l (x + h)) ⌝ }
+{
+    let y = x + h;
+    if certain {
+        plus_at(w, c, x, y, h);
+    } else {
+        plus_box(w, c, x, l, y, h);
+    }
 }

@@ -232,3 +232,11 @@ alike-more byte alike part i h =
 pub alike-end : (byte : ℕ) (alike : Bool) (part : List ℕ) (i : ℕ) → length part ≤ i → (alike && allAre byte (drop i part)) ≡ alike
 unfolding allAre
 alike-end byte alike part i h = rw (drop-of-length-le part h) (and-true alike)
+
+-- the kind found from the part of the mask
+pub kind-part : (mask : List ℕ) (b s : ℕ) → b + s ≤ length mask
+    → kindOf (length (take (b + s - b) (drop b mask))) (take (b + s - b) (drop b mask)) ≡ kindOf s (take s (drop b mask))
+kind-part mask b s le =
+    let n : b + s - b ≡ s = omega arith in
+    ap (λ (k : ℕ). kindOf (length (take k (drop b mask))) (take k (drop b mask))) n
+    ∙ ap (λ (k : ℕ). kindOf k (take s (drop b mask))) (length-take-le s (drop b mask) (omega (arith, length-drop b mask)))

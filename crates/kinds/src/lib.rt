@@ -1,12 +1,15 @@
 // The kind of a node, from its part of the mask. Each kind's pattern is a run of frozen positions with unfrozen ones after it.
 use inputs::both;
 ghost use mathlib.Core.Path.{_≡_};
-ghost use Prim.Native.Nat.{_<_, _≤_};
+ghost use mathlib.Core.Bool.{true, _||_};
+ghost use Prim.Native.Nat.{_+_, _<_, _≤_};
 ghost use lib.Dec.{T};
-ghost use lib.ListN.{length};
+ghost use lib.ListN.{length, take, drop};
 ghost use Rattle.model.specs.Lists.{same};
 ghost use Rattle.model.specs.Kinds.{rate-0, rate-1, kindOf, isSome, isKind, onlyFirst};
+ghost use Rattle.model.specs.Plans.{isCut};
 ghost use Rattle.kinds.specs.Runs.{kindNamed, allAre, Ends};
+ghost use Rattle.kinds.specs.Known.{FixedAs};
 
 // Mask bytes.
 const FROZEN: u8 = 1;
@@ -115,4 +118,38 @@ pub fn is_rate_one(mask: &[u8]) -> bool
     ensures { λ r. ⌜ r ≡ isKind rate-1 (kindOf (length (now (mask .entry))) (now (mask .entry))) ⌝ }
 {
     mask[0] == UNFROZEN
+}
+
+// What is known of a node's message whatever the node is handed: it is certain everywhere, or 0 everywhere.
+pub struct Fixed {
+    pub certain: bool,
+    pub zero: bool,
+}
+
+// A cut rate-0 node's message is certain, a cut rate-1 node's is 0. Node q has s positions from b on.
+pub fn fixed_message(plan: &[u8], mask: &[u8], q: usize, b: usize, s: usize) -> Fixed
+    requires { ⌜ (q < length (now plan)) × (b + s ≤ length (now mask)) ⌝ }
+    requires { ⌜ (isCut (now plan) q ≡ true → T (isSome (kindOf s (take s (drop b (now mask)))))) ⌝ }
+    ensures { λ r. ⌜ FixedAs (now (plan .entry)) s q (take s (drop b (now (mask .entry)))) (r .certain) (r .zero) ⌝ }
+{
+    if plan[q] == 1 {
+        let e = b + s;
+        let certain = is_rate_zero(&mask[b..e]);
+        let zero = is_rate_one(&mask[b..e]);
+        Fixed {
+            certain: certain,
+            zero: zero,
+        }
+    } else {
+        Fixed {
+            certain: false,
+            zero: false,
+        }
+    }
+}
+
+pub fn is_fixed(m: Fixed) -> bool
+    ensures { λ r. ⌜ r ≡ (m .certain || m .zero) ⌝ }
+{
+    if m.certain { true } else { m.zero }
 }

@@ -5,15 +5,19 @@ use classes::gather;
 use classes::gather_folded;
 use extrinsic::spread;
 use extrinsic::subtract;
+use kinds::Kind;
 use words::fill;
 ghost use mathlib.Core.Path.{_≡_};
-ghost use mathlib.Core.Bool.{true};
+ghost use mathlib.Core.Bool.{true, false};
 ghost use mathlib.Core.List.{List};
 ghost use Prim.Native.Nat.{_+_, _%_, _≤_};
 ghost use lib.ListN.{length};
 ghost use Rattle.model.specs.Soft.{Soft};
 ghost use Rattle.model.specs.Kinds.{shortcut, rate-0, rate-1, REP, SPC, type-I, type-III};
+ghost use Rattle.model.specs.Plans.{isRate01};
 ghost use Rattle.words.specs.Words.{soft, stored, Incoming};
+ghost use Rattle.kinds.specs.Runs.{kindNamed};
+ghost use Rattle.messages.specs.Cut.{cutWords};
 
 // The message of a rate-0 node: certain everywhere, whatever its incoming list L is.
 pub fn rate_zero_message(w: &mut [i32], m: usize, s: usize)
@@ -152,5 +156,22 @@ pub fn type_three_message(w: &mut [i32], m: usize, x: usize, s: usize)
         type_three_large(w, m, x, s);
     } else {
         type_three_small(w, m, x, s);
+    }
+}
+
+// The message of a cut node, by its kind. A rate-0 or rate-1 node does not look at what it is handed.
+pub fn cut_message(w: &mut [i32], k: Kind, m: usize, x: usize, s: usize)
+    requires { ⌜ (m + s ≤ x) × (x + s ≤ length (now w)) ⌝ }
+    requires { ⌜ (isRate01 (kindNamed k) ≡ false → Incoming (now w) x s) ⌝ }
+    ensures { λ _. ⌜ now (w .exit) ≡ cutWords (kindNamed k) (now (w .entry)) m x s ⌝ }
+{
+    match k {
+        Kind::Rate0 => rate_zero_message(w, m, s),
+        Kind::Rate1 => rate_one_message(w, m, s),
+        Kind::Rep => rep_message(w, m, x, s),
+        Kind::Spc => spc_message(w, m, x, s),
+        Kind::TypeI => type_one_message(w, m, x, s),
+        Kind::TypeIII => type_three_message(w, m, x, s),
+        Kind::NoKind => {}
     }
 }

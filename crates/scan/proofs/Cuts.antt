@@ -24,7 +24,9 @@ use Rattle.words.specs.Words.{word, softOf, soft, write, stored, Incoming}
 use Rattle.words.proofs.Laws.{soft-word, soft-at, small-size}
 use Rattle.words.proofs.Store.{write-ext}
 use Rattle.messages.proofs.Messages.{zero-value, rate-one-value}
-use Rattle.scan.specs.Space.{constant, FixedAs, treeAt, begun, part, Room, Visited, cutWords}
+use Rattle.kinds.specs.Known.{FixedAs}
+use Rattle.scan.specs.Space.{constant, treeAt, begun, part, Room, Visited}
+use Rattle.messages.specs.Cut.{cutWords}
 use Rattle.scan.proofs.Begun.{begun-put}
 use Rattle.scan.proofs.Known.{is-kind}
 use Rattle.scan.proofs.Keep.{Fit, kept-row, node-path, under, stored-at}
@@ -114,14 +116,6 @@ module _ (plan mask : List ℕ) (N t s p b x : ℕ) (first : Bool) (w v : List �
 pub not-leaf : (plan : List ℕ) (t p : ℕ) (mask : List ℕ) → T (wellCut plan t p mask) → (getD plan p 0 ≡ 1 → ⊥) → t ≡ 0 → ⊥
 not-leaf plan zero p mask w ne e = ne (eqb→eq (getD plan p 0) 1 (subst T (sym (leaf-cut plan p mask w)) tt))
 not-leaf plan (suc t) p mask w ne e = omega arith
-
--- the kind found from the part of the mask
-pub kind-part : (mask : List ℕ) (b s : ℕ) → b + s ≤ length mask
-    → kindOf (length (take (b + s - b) (drop b mask))) (take (b + s - b) (drop b mask)) ≡ kindOf s (take s (drop b mask))
-kind-part mask b s le =
-    let n : b + s - b ≡ s = omega arith in
-    ap (λ (k : ℕ). kindOf (length (take k (drop b mask))) (take k (drop b mask))) n
-    ∙ ap (λ (k : ℕ). kindOf k (take s (drop b mask))) (length-take-le s (drop b mask) (omega (arith, length-drop b mask)))
 
 pub kind-stage : (mask : List ℕ) (b s t : ℕ) → s ≡ 2 ^ t → kindOf s (take s (drop b mask)) ≡ kindOf (2 ^ t) (part mask b t)
 kind-stage mask b s t size = ap (λ (k : ℕ). kindOf k (take k (drop b mask))) size

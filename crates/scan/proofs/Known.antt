@@ -14,7 +14,8 @@ use Rattle.model.specs.Kinds.{Kind, rate-0, rate-1, REP, SPC, type-I, type-III,
 use Rattle.model.specs.Plans.{isCut, isRate01, putKind, walk}
 use Rattle.model.proofs.Lists.{T-true, true-T, and-l, and-r, getD-tabulate}
 use Rattle.model.proofs.PlannedWalk.{walk-cut, message-put}
-use Rattle.scan.specs.Space.{constant, FixedAs}
+use Rattle.kinds.specs.Known.{FixedAs}
+use Rattle.scan.specs.Space.{constant}
 
 -- a child is constant exactly if its message is certain or 0
 rate-01 : (o : Option Kind) → (isKind rate-0 o || isKind rate-1 o) ≡ isRate01 o

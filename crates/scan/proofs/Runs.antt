@@ -21,7 +21,8 @@ use Rattle.model.proofs.Paths.{wellCut-cut, wellCut-through}
 use Rattle.model.proofs.Bounds.{cap-suc, small-toLeft, small-toRight, held-walk, held-message}
 use Rattle.words.specs.Words.{FiniteBoxSums, Holds, word, softOf, soft, write, boxAt, boxPlus, plusBox, Words, Sums, BoxSums}
 use Rattle.words.proofs.Store.{source-below, length-write}
-use Rattle.scan.specs.Space.{constant, FixedAs, treeAt, begun, part, Room, Visited}
+use Rattle.kinds.specs.Known.{FixedAs}
+use Rattle.scan.specs.Space.{constant, treeAt, begun, part, Room, Visited}
 use Rattle.scan.proofs.Keep.{Fit, node-path, part-left, part-right}
 use Rattle.scan.proofs.Begun.{begun-left, begun-right, begun-zero, leaf-constant}
 use Rattle.scan.proofs.Mids.{Mid, mid-start, mid-scratch, mid-row, mid-left, mid-right, words-list, words-high, words-left, right-sums, right-stays, right-list, left-sums, left-list, left-list-zero, up-sums, low-half, high-half, left-holds, right-holds}

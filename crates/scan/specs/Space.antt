@@ -2,17 +2,16 @@
 use mathlib.Core.Path.{_≡_}
 use mathlib.Core.Logic.{_⊎_}
 use mathlib.Core.Bool.{Bool, false, cond, _&&_}
-use mathlib.Core.Option.{Option, none, some}
 use mathlib.Core.List.{List}
 use Prim.Native.Nat.{ℕ, zero, suc, _+_, _*_, _^_, _≤_, _<_}
 use lib.IntN.{ℤ, natAbs}
 use lib.Dec.{T}
 use lib.ListN.{length, take, drop}
 use Rattle.model.specs.Scan.{Tree, leaf, node, message, left, right, start, sweeps}
-use Rattle.model.specs.Kinds.{Kind, rate-0, rate-1, kindOf, isKind, shortcut}
+use Rattle.model.specs.Kinds.{kindOf}
 use Rattle.model.specs.Plans.{isCut, isRate01, wellCut, put, walk, Stays, Allowed}
 use Rattle.model.specs.Bounds.{SmallAll, Held, limit}
-use Rattle.words.specs.Words.{word, soft, write, stored}
+use Rattle.words.specs.Words.{word, soft, write}
 
 -- the tree of the node of stage t whose first position is b: word u * N + i is the message of stage u at position i
 unfoldable pub treeAt : ℕ → List ℤ → ℕ → ℕ → Tree
@@ -37,12 +36,6 @@ part mask b t = take (2 ^ t) (drop b mask)
 -- a cut rate-0 or rate-1 node: its message does not depend on what it is handed
 abbrev pub constant : List ℕ → ℕ → ℕ → List ℕ → Bool
 constant plan m p mask = isCut plan p && isRate01 (kindOf m mask)
-
--- what is known of node p's message whatever the node is handed: whether it is certain everywhere, as a cut rate-0 node's is, or 0 everywhere, as a cut
--- rate-1 node's
-pub record FixedAs (plan : List ℕ) (m p : ℕ) (mask : List ℕ) (certain zero : Bool) : Type 0 where
-  pub as-certain : certain ≡ (isCut plan p && isKind rate-0 (kindOf m mask))
-  pub as-zero : zero ≡ (isCut plan p && isKind rate-1 (kindOf m mask))
 
 -- what a visit of node p at stage t, of s positions from b on, with its incoming list at x, requires.
 -- Messages below a cut are not mentioned, nor are stored messages in the first sweep.
@@ -71,11 +64,6 @@ pub record Kept (N t b x : ℕ) (w v : List ℤ) : Type 0 where
 pub record Visited (plan mask : List ℕ) (N t p b x : ℕ) (first : Bool) (w v : List ℤ) : Type 0 where
   pub tree : treeAt N v t b ≡ walk plan t p (part mask b t) (begun first plan t p (part mask b t) (treeAt N w t b)) (soft w x (2 ^ t))
   pub kept : Kept N t b x w v
-
--- the words after a node of a kind was cut
-abbrev pub cutWords : Option Kind → List ℤ → ℕ → ℕ → ℕ → List ℤ
-cutWords none w m x s = w
-cutWords (some k) w m x s = stored w m s (shortcut k s (soft w x s))
 
 -- ---- sweeps
 -- N words a row and t + 3 rows: those of the stages 0 to t, and two for incoming lists, the root's first.

@@ -3,125 +3,37 @@ use by_list::message_by_list;
 use combine::message_left_certain;
 use combine::message_right_zero;
 use combine::node_message;
-use halves::box_at;
-use halves::box_plus;
-use halves::plus_at;
-use halves::plus_box;
-use kinds::Kind;
+use halves::left_list;
+use halves::right_list;
+use kinds::Fixed;
 use kinds::cut_kind;
-use kinds::is_rate_one;
-use kinds::is_rate_zero;
+use kinds::fixed_message;
+use kinds::is_fixed;
+use messages::cut_message;
 use messages::rate_one_message;
 use messages::rate_zero_message;
-use messages::rep_message;
-use messages::spc_message;
-use messages::type_one_message;
-use messages::type_three_message;
 use words::copy_words;
-use words::fill;
 use words::load_llrs;
-use words::pick_word;
 ghost use mathlib.Core.Path.{_≡_};
 ghost use Prim.Native.Nat.{_+_, _*_, _≤_, _<_};
-ghost use lib.ListN.{length, take, drop};
+ghost use lib.ListN.{length};
 ghost use lib.IntN.{pos};
 ghost use mathlib.Core.List.{map};
 ghost use Rattle.model.specs.Soft.{finite, mark};
 ghost use Rattle.model.specs.Scan.{scan};
-ghost use Rattle.words.specs.Words.{Incoming, stored, write, Holds, boxAt, boxPlus, plusBox, Words, Sums, BoxSums, FiniteBoxSums};
-ghost use Rattle.model.specs.Kinds.{kindOf, isSome};
-ghost use Rattle.model.specs.Plans.{isCut, isRate01};
-ghost use lib.Dec.{T};
+ghost use Rattle.words.specs.Words.{stored, write, Holds, boxPlus, plusBox, Words, Sums, BoxSums, FiniteBoxSums};
 ghost use mathlib.Core.Bool.{true, false, cond, _||_};
-ghost use Rattle.kinds.specs.Runs.{kindNamed};
-ghost use Rattle.scan.specs.Space.{FixedAs, Room, Visited, cutWords, Ready, Swept, withLlrs, Decodable};
-
-// The message of a cut node, by its kind. A rate-0 or rate-1 node does not look at what it is handed.
-fn cut_message(w: &mut [i32], k: Kind, m: usize, x: usize, s: usize)
-    requires { ⌜ (m + s ≤ x) × (x + s ≤ length (now w)) ⌝ }
-    requires { ⌜ (isRate01 (kindNamed k) ≡ false → Incoming (now w) x s) ⌝ }
-    ensures { λ _. ⌜ now (w .exit) ≡ cutWords (kindNamed k) (now (w .entry)) m x s ⌝ }
-{
-    match k {
-        Kind::Rate0 => rate_zero_message(w, m, s),
-        Kind::Rate1 => rate_one_message(w, m, s),
-        Kind::Rep => rep_message(w, m, x, s),
-        Kind::Spc => spc_message(w, m, x, s),
-        Kind::TypeI => type_one_message(w, m, x, s),
-        Kind::TypeIII => type_three_message(w, m, x, s),
-        Kind::NoKind => {}
-    }
-}
-
-// What is known of a node's message whatever the node is handed: it is certain everywhere, or 0 everywhere.
-struct Fixed {
-    certain: bool,
-    zero: bool,
-}
-
-// A cut rate-0 node's message is certain, a cut rate-1 node's is 0. Node q has s positions from b on.
-fn fixed_message(plan: &[u8], mask: &[u8], q: usize, b: usize, s: usize) -> Fixed
-    requires { ⌜ (q < length (now plan)) × (b + s ≤ length (now mask)) ⌝ }
-    requires { ⌜ (isCut (now plan) q ≡ true → T (isSome (kindOf s (take s (drop b (now mask)))))) ⌝ }
-    ensures { λ r. ⌜ FixedAs (now (plan .entry)) s q (take s (drop b (now (mask .entry)))) (r .certain) (r .zero) ⌝ }
-{
-    if plan[q] == 1 {
-        let e = b + s;
-        let certain = is_rate_zero(&mask[b..e]);
-        let zero = is_rate_one(&mask[b..e]);
-        Fixed {
-            certain: certain,
-            zero: zero,
-        }
-    } else {
-        Fixed {
-            certain: false,
-            zero: false,
-        }
-    }
-}
-
-fn is_fixed(m: Fixed) -> bool
-    ensures { λ r. ⌜ r ≡ (m .certain || m .zero) ⌝ }
-{
-    if m.certain { true } else { m.zero }
-}
+ghost use Rattle.scan.specs.Space.{Room, Visited, Ready, Swept, withLlrs, Decodable};
 
 // The message of a child whose message is fixed, at m: certain or 0 everywhere.
 fn fixed_child(w: &mut [i32], child: Fixed, m: usize, s: usize)
     requires { ⌜ m + s ≤ length (now w) ⌝ }
     ensures { λ _. ⌜ now (w .exit) ≡ write (now (w .entry)) m s (λ k. cond (child .certain) (pos mark) (pos 0)) ⌝ }
 {
-    let value = pick_word(child.certain, 2147483647, 0);
-    fill(w, m, s, value);
-}
-
-// The incoming list of the left child, at c: the node's is at x, the right child's message at r. In the first sweep that message is 0, whatever is stored.
-fn left_list(w: &mut [i32], first: bool, c: usize, x: usize, r: usize, h: usize)
-    requires { ⌜ (r + h ≤ x) × (x + (h + h) ≤ c) × (c + h ≤ length (now w)) ⌝ }
-    requires { ⌜ Words (now w) x h × Words (now w) (x + h) h × (first ≡ false → Sums (now w) (x + h) r h) ⌝ }
-    ensures { λ _. ⌜ now (w .exit) ≡ write (now (w .entry)) c h (cond first (boxAt (now (w .entry)) x (x + h)) (boxPlus (now (w .entry)) x (x + h) r)) ⌝ }
-{
-    let y = x + h;
-    if first {
-        box_at(w, c, x, y, h);
+    if child.certain {
+        rate_zero_message(w, m, s);
     } else {
-        box_plus(w, c, x, y, r, h);
-    }
-}
-
-// The incoming list of the right child, at c: the node's is at x, the left child's message at l.
-fn right_list(w: &mut [i32], left: Fixed, c: usize, x: usize, l: usize, h: usize)
-    requires { ⌜ (l + h ≤ x) × (x + (h + h) ≤ c) × (c + h ≤ length (now w)) ⌝ }
-    requires { ⌜ Words (now w) x h × Words (now w) l h × FiniteBoxSums (now w) x l (x + h) h ⌝ }
-    requires { ⌜ (left .certain ≡ true → Holds (now w) l h (λ k. pos mark)) ⌝ }
-    ensures { λ _. ⌜ now (w .exit) ≡ write (now (w .entry)) c h (plusBox (now (w .entry)) x l (x + h)) ⌝ }
-{
-    let y = x + h;
-    if left.certain {
-        plus_at(w, c, x, y, h);
-    } else {
-        plus_box(w, c, x, l, y, h);
+        rate_one_message(w, m, s);
     }
 }
 
@@ -197,7 +109,7 @@ fn visit(
     if is_fixed(right) {
         fixed_child(work, right, r, h);
     } else {
-        right_list(work, left, c, x, l, h);
+        right_list(work, left.certain, c, x, l, h);
         visit(work, plan, mask, n, u, h, q + 1, d, c, first);
     }
     own_message(work, left, right, m, x, l, c, h);

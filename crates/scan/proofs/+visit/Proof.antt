@@ -17,23 +17,25 @@ use lib.IntN.{ℤ, pos}
 use mathlib.Core.List.{List}
 use Rattle.model.specs.Soft.{mark}
 use Rattle.words.specs.Words.{write}
-use Rattle.scan.specs.Space.{part, Visited, cutWords}
+use Rattle.scan.specs.Space.{part, Visited}
+use Rattle.kinds.proofs.Runs.{kind-part}
+use Rattle.messages.specs.Cut.{cutWords}
 use Rattle.scan.proofs.Nodes.{Geo, geo, inside}
 use Rattle.model.proofs.Paths.{wellCut-cut}
 use Rattle.scan.proofs.Runs.{Run, LeftDone, RightDone, no-list, a-list, run}
-use Rattle.scan.proofs.Cuts.{not-leaf, kind-part, kind-stage, incoming, visited-cut, visited-fixed}
+use Rattle.scan.proofs.Cuts.{not-leaf, kind-stage, incoming, visited-cut, visited-fixed}
 use Rattle.scan.proofs.+visit.{statement}
 use Rattle.scan.proofs.+visit.Tie.{close}
 use Rattle.scan.proofs.visit.Reads as visit
 use Rattle.scan.proofs.visit.Kinds as visit-kinds
 use Rattle.scan.proofs.+visit.Lts-visit as visit-lts
 use Rattle.kinds.proofs.cut_kind.Reads as cut-kind-reads
-use Rattle.scan.proofs.cut_message.Reads as cut-message-reads
-use Rattle.scan.proofs.fixed_message.Reads as fixed-message-reads
-use Rattle.scan.proofs.is_fixed.Reads as is-fixed-reads
+use Rattle.messages.proofs.cut_message.Reads as cut-message-reads
+use Rattle.kinds.proofs.fixed_message.Reads as fixed-message-reads
+use Rattle.kinds.proofs.is_fixed.Reads as is-fixed-reads
 use Rattle.scan.proofs.fixed_child.Reads as fixed-child-reads
-use Rattle.scan.proofs.left_list.Reads as left-list-reads
-use Rattle.scan.proofs.right_list.Reads as right-list-reads
+use Rattle.halves.proofs.left_list.Reads as left-list-reads
+use Rattle.halves.proofs.right_list.Reads as right-list-reads
 use Rattle.scan.proofs.own_message.Reads as own-message-reads
 
 abbrev μ-visit : Measures 3 visit-kinds.ps ℕ

@@ -1,17 +1,24 @@
--- `scan::fixed_child` meets its contract. Assumes nothing.
-use mathlib.Core.Path.{_∙_, ap}
-use lib.IntN.{ℤ}
-use Rattle.words.specs.Words.{write}
-use Rattle.words.proofs.Signed.{back}
+-- `scan::fixed_child` meets its contract: a fixed message is that of a rate-0 or of a rate-1 node. Assumes nothing.
+use mathlib.Core.Path.{_≡_, sym, ap, _∙_}
+use mathlib.Core.Bool.{Bool, cond}
+use mathlib.Core.List.{[]}
+use lib.IntN.{ℤ, pos}
+use Rattle.model.specs.Soft.{mark}
+use Rattle.words.proofs.Store.{write-ext}
+use Rattle.messages.proofs.Messages.{zero-value, rate-one-value}
 use borrow.Author.Needs.{needs}
 use Rattle.scan.proofs.fixed_child.Statement.{statement}
 use Rattle.scan.proofs.fixed_child.Tie as tie
 
-pick-word-requires : tie.Need-pick-word-requires
-pick-word-requires c κs = search needs
+-- the word of either value
+picked : {b b′ : Bool} → b ≡ b′ → cond b′ (pos mark) (pos 0) ≡ cond b (pos mark) (pos 0)
+picked e = sym (ap (λ (b : Bool). cond b (pos mark) (pos 0)) e)
 
-fill-requires : tie.Need-fill-requires
-fill-requires c κs = search needs
+rate-zero-message-requires : tie.Need-rate-zero-message-requires
+rate-zero-message-requires c κs = search needs
+
+rate-one-message-requires : tie.Need-rate-one-message-requires
+rate-one-message-requires c κs = search needs
 
 same-length : tie.Need-same-length
 same-length c = search needs
@@ -19,8 +26,15 @@ same-length c = search needs
 returns : tie.Need-returns
 returns c =
     let a = c .before .before .before .before .args in
-    let picked = c .before .before .before .pick-word in
-    c .before .fill .ensures ∙ ap (λ (z : ℤ). write (a .w .now) (a .m) (a .s) (λ k. z)) (back (picked .ok) ∙ picked .ensures)
+    c .before .rate-zero-message .ensures [] ∙ write-ext (pos 0) (a .w .now) (a .m) (a .s) _ _ (λ k lt. sym (zero-value (a .s) [] k lt) ∙ picked (c .before .before .before .if1 .taken))
+
+same-length-2 : tie.Need-same-length-2
+same-length-2 c = search needs
+
+returns-2 : tie.Need-returns-2
+returns-2 c =
+    let a = c .before .before .before .before .args in
+    c .before .rate-one-message .ensures [] ∙ write-ext (pos 0) (a .w .now) (a .m) (a .s) _ _ (λ k lt. sym (rate-one-value (a .s) [] k lt) ∙ picked (c .before .before .before .if1 .left))
 
 pub fixed-child-spec : {M : Type 1} → statement M
-fixed-child-spec = tie.close (tie.spec pick-word-requires fill-requires same-length returns)
+fixed-child-spec = tie.close (tie.spec rate-zero-message-requires rate-one-message-requires same-length returns same-length-2 returns-2)

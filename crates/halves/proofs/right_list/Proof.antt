@@ -1,4 +1,4 @@
--- `scan::right_list` meets its contract: the list is stored by `halves::plus_box`, or by `halves::plus_at` where the box is with certain.
+-- `halves::right_list` meets its contract: the list is stored by `plus_box`, or by `plus_at` where the box is with certain.
 -- Assumes nothing.
 use mathlib.Core.Path.{sym, _∙_, subst}
 use mathlib.Core.Logic.{inr}
@@ -9,8 +9,8 @@ use Rattle.words.specs.Words.{Finite, word, plusAt, plusBox}
 use Rattle.words.proofs.Laws.{box-certain, plus-box-certain}
 use Rattle.words.proofs.Store.{write-ext}
 use borrow.Author.Needs.{needs}
-use Rattle.scan.proofs.right_list.Statement.{statement}
-use Rattle.scan.proofs.right_list.Tie as tie
+use Rattle.halves.proofs.right_list.Statement.{statement}
+use Rattle.halves.proofs.right_list.Tie as tie
 
 add-y : tie.Need-add-y
 add-y c = search needs

@@ -1,4 +1,4 @@
--- `scan::fixed_message` meets its contract: a node that is cut has a kind, and its kind says whether it is rate-0 or rate-1. Assumes nothing.
+-- `kinds::fixed_message` meets its contract: a node that is cut has a kind, and its kind says whether it is rate-0 or rate-1. Assumes nothing.
 use mathlib.Core.Path.{_≡_, sym, ap, _∙_, subst}
 use mathlib.Core.Bool.{Bool, false, _&&_}
 use mathlib.Core.Option.{Option}
@@ -8,10 +8,10 @@ use lib.Dec.{T}
 use lib.ListN.{length, getD, take, drop}
 use Rattle.model.specs.Kinds.{Kind, rate-0, rate-1, kindOf, isKind, isSome}
 use Rattle.model.specs.Plans.{isCut}
-use Rattle.scan.proofs.Cuts.{kind-part}
+use Rattle.kinds.proofs.Runs.{kind-part}
 use borrow.Author.Needs.{needs}
-use Rattle.scan.proofs.fixed_message.Statement.{statement}
-use Rattle.scan.proofs.fixed_message.Tie as tie
+use Rattle.kinds.proofs.fixed_message.Statement.{statement}
+use Rattle.kinds.proofs.fixed_message.Tie as tie
 
 shared-slice-read-if1 : tie.Need-shared-slice-read-if1
 shared-slice-read-if1 c = search needs

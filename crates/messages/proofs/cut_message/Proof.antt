@@ -1,13 +1,13 @@
--- `scan::cut_message` meets its contract: each case stores the message of its kind. Assumes nothing.
+-- `messages::cut_message` meets its contract: each case stores the message of its kind. Assumes nothing.
 use mathlib.Core.Path.{sym, ap, _∙_}
 use Rattle.kinds.specs.declared.Kind.{Kind}
 use Rattle.kinds.specs.Runs.{kindNamed}
 use Rattle.model.specs.Plans.{isRate01}
 use Rattle.words.specs.Words.{soft}
-use Rattle.scan.specs.Space.{cutWords}
+use Rattle.messages.specs.Cut.{cutWords}
 use borrow.Author.Needs.{needs}
-use Rattle.scan.proofs.cut_message.Statement.{statement}
-use Rattle.scan.proofs.cut_message.Tie as tie
+use Rattle.messages.proofs.cut_message.Statement.{statement}
+use Rattle.messages.proofs.cut_message.Tie as tie
 
 enum-told : tie.Need-enum-told
 enum-told c = search needs

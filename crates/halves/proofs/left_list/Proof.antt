@@ -1,4 +1,4 @@
--- `scan::left_list` meets its contract: the list is stored by `halves::box_at` in the first sweep and by `halves::box_plus` in the others. Assumes nothing.
+-- `halves::left_list` meets its contract: the list is stored by `box_at` in the first sweep and by `box_plus` in the others. Assumes nothing.
 use Prim.Native.Nat.{_+_}
 use mathlib.Core.Path.{sym, ap, _∙_}
 use mathlib.Core.Logic.{inr}
@@ -6,8 +6,8 @@ use mathlib.Core.Bool.{Bool, cond}
 use native.Mathlib.Omega.{arith}
 use Rattle.words.specs.Words.{write, boxAt, boxPlus}
 use borrow.Author.Needs.{needs}
-use Rattle.scan.proofs.left_list.Statement.{statement}
-use Rattle.scan.proofs.left_list.Tie as tie
+use Rattle.halves.proofs.left_list.Statement.{statement}
+use Rattle.halves.proofs.left_list.Tie as tie
 
 add-y : tie.Need-add-y
 add-y c = search needs
