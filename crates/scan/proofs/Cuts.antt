@@ -7,8 +7,8 @@ use mathlib.Core.List.{List}
 use Prim.Native.Nat.{ℕ, zero, suc, _+_, _-_, _*_, _^_, _≤_, _<_}
 use native.Mathlib.Nat.{mul-comm, mul-le-mul-right}
 use native.Mathlib.Omega.{arith}
-use lib.Dec.{T, eqb→eq}
-use lib.ListN.{length, getD, take, drop, length-drop}
+use lib.Dec.{T}
+use lib.ListN.{length, take, drop}
 use lib.Seq.{length-take-le}
 use Rattle.model.specs.Lists.{tabulate}
 use Rattle.model.specs.Soft.{Soft, certain, softZero, _at_, box, plus, mark, wordOf}
@@ -16,7 +16,7 @@ use Rattle.model.specs.Scan.{leaf}
 use Rattle.model.specs.Kinds.{isSome, isKind, Kind, rate-0, rate-1, REP, SPC, type-I, type-III, kindOf, shortcut, others}
 use Rattle.model.specs.Plans.{isRate01, isCut, wellCut, putKind, put}
 use Rattle.model.specs.Bounds.{limit, Small, Under, cap}
-use Rattle.model.proofs.Lists.{T-true, true-T, double, tabulate-ext, getD-tabulate, and-l, and-r}
+use Rattle.model.proofs.Lists.{T-true, true-T, absurd-bool, double, tabulate-ext, getD-tabulate, and-l, and-r}
 use Rattle.model.proofs.PlannedWalk.{walk-cut}
 use Rattle.model.proofs.Paths.{wellCut-cut}
 use Rattle.model.proofs.Bounds.{shortcut-under, under-mono}
@@ -113,9 +113,9 @@ module _ (plan mask : List ℕ) (N t s p b x : ℕ) (first : Bool) (w v : List �
           }
 
 -- ---- in the code's terms
-pub not-leaf : (plan : List ℕ) (t p : ℕ) (mask : List ℕ) → T (wellCut plan t p mask) → (getD plan p 0 ≡ 1 → ⊥) → t ≡ 0 → ⊥
-not-leaf plan zero p mask w ne e = ne (eqb→eq (getD plan p 0) 1 (subst T (sym (leaf-cut plan p mask w)) tt))
-not-leaf plan (suc t) p mask w ne e = omega arith
+pub not-leaf : (plan : List ℕ) (t p : ℕ) (mask : List ℕ) → T (wellCut plan t p mask) → isCut plan p ≡ false → t ≡ 0 → ⊥
+not-leaf plan zero p mask w uncut e = absurd-bool (isCut plan p) (leaf-cut plan p mask w) uncut
+not-leaf plan (suc t) p mask w uncut e = omega arith
 
 pub kind-stage : (mask : List ℕ) (b s t : ℕ) → s ≡ 2 ^ t → kindOf s (take s (drop b mask)) ≡ kindOf (2 ^ t) (part mask b t)
 kind-stage mask b s t size = ap (λ (k : ℕ). kindOf k (take k (drop b mask))) size

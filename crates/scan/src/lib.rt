@@ -131,7 +131,7 @@ pub fn sweeps(work: &mut [i32], plan: &[u8], mask: &[u8], n: usize, t: usize, co
     requires { ⌜ 0 < count ⌝ }
     ensures { λ _. ⌜ Swept (now (plan .entry)) (now (mask .entry)) n t true count (now (work .entry)) (now (work .exit)) ⌝ }
 {
-    let mut k = 0;
+    let mut k: usize = 0;
     while k < count {
         let first = k == 0;
         sweep(work, plan, mask, n, t, first);

@@ -2,7 +2,7 @@
 -- are linear arithmetic over the numbers of `Geo`. Assumes nothing.
 use mathlib.Core.Path.{_≡_, sym, ap, _∙_, subst}
 use mathlib.Core.Logic.{⊎-elim}
-use mathlib.Core.Bool.{Bool, cond, _&&_, _||_}
+use mathlib.Core.Bool.{Bool, true, false, cond, _&&_, _||_}
 use mathlib.Core.Option.{Option}
 use Prim.Native.Nat.{ℕ, _<_, _+_, _*_, _-_, _/_, _^_}
 use native.Mathlib.Omega.{arith}
@@ -12,7 +12,7 @@ use borrow.Author.Tests.{eq-eqb, ne-eqb}
 use borrow.Fn.Kinds.{In}
 use borrow.Fn.PlainCycle.{Measures, is, falls, and}
 use Rattle.model.specs.Kinds.{Kind, isSome, kindOf}
-use Rattle.model.specs.Plans.{isRate01}
+use Rattle.model.specs.Plans.{isCut, isRate01}
 use lib.IntN.{ℤ, pos}
 use mathlib.Core.List.{List}
 use Rattle.model.specs.Soft.{mark}
@@ -55,12 +55,22 @@ module _ (t : ℕ) where
   abbrev Uncut : Type 0
   Uncut = visit-lts.Else1 (around t) (visit-at t) visit.Post
 
+  abbrev Cut : Type 0
+  Cut = visit-lts.Then1 (around t) (visit-at t) visit.Post
+
+  -- the walk goes on where the plan does not cut, and stops where it does
+  not-cut : (c : Uncut) → let a = c .before .before .before .before .args in isCut (a .plan .now) (a .p) ≡ false
+  not-cut c = let a = c .before .before .before .before .args in ne-eqb (getD (a .plan .now) (a .p) 0) 1 (c .if1 .left)
+
+  is-cut : (c : Cut) → let a = c .before .before .before .before .args in isCut (a .plan .now) (a .p) ≡ true
+  is-cut c = let a = c .before .before .before .before .args in eq-eqb (getD (a .plan .now) (a .p) 0) 1 (c .if1 .taken)
+
   -- an uncut node is no leaf
   above : (c : Uncut) → c .before .before .before .before .args .t ≡ 0 → ⊥
   above c =
       let start = c .before .before .before .before in
       let a = start .args in
-      not-leaf (a .plan .now) (a .t) (a .p) (part (a .mask .now) (a .b) (a .t)) (start .pre .1 .cuts) (c .if1 .left)
+      not-leaf (a .plan .now) (a .t) (a .p) (part (a .mask .now) (a .b) (a .t)) (start .pre .1 .cuts) (not-cut c)
 
   -- its numbers
   numbers : (c : Uncut) →
@@ -74,7 +84,7 @@ module _ (t : ℕ) where
   running c =
       let start = c .before .before .before .before in
       let a = start .args in
-      run (a .plan .now) (a .mask .now) (a .n) (a .t) (a .s) (a .p) (a .b) (a .x) (a .first) (a .work .now) (above c) (start .pre .1) (ne-eqb (getD (a .plan .now) (a .p) 0) 1 (c .if1 .left))
+      run (a .plan .now) (a .mask .now) (a .n) (a .t) (a .s) (a .p) (a .b) (a .x) (a .first) (a .work .now) (above c) (start .pre .1) (not-cut c)
 
   visit-mul-m : visit-lts.Need-mul-m (around t) (visit-at t) visit.Post
   visit-mul-m c =
@@ -124,7 +134,7 @@ module _ (t : ℕ) where
       let a = start .args in
       let room = start .pre .1 in
       subst (λ (o : Option Kind). T (isSome o)) (sym (kind-part (a .mask .now) (a .b) (a .s) (room .masked) ∙ kind-stage (a .mask .now) (a .b) (a .s) (a .t) (room .size)))
-      (wellCut-cut (a .plan .now) (a .t) (a .p) (part (a .mask .now) (a .b) (a .t)) (eq-eqb (getD (a .plan .now) (a .p) 0) 1 (c .before .if1 .taken)) (room .cuts))
+      (wellCut-cut (a .plan .now) (a .t) (a .p) (part (a .mask .now) (a .b) (a .t)) (is-cut (c .before)) (room .cuts))
 
   visit-cut-message-requires : visit-lts.Need-cut-message-requires (around t) (visit-at t) visit.Post
   visit-cut-message-requires c κs =
@@ -132,7 +142,7 @@ module _ (t : ℕ) where
       let a = start .args in
       let room = start .pre .1 in (
         (omega arith, omega arith),
-        λ q. incoming room (ap (λ (x : Bool). x && isRate01 (kindOf (2 ^ a .t) (part (a .mask .now) (a .b) (a .t)))) (eq-eqb (getD (a .plan .now) (a .p) 0) 1 (c .before .before .before .if1 .taken)) ∙ sym (ap isRate01 (c .before .cut-kind .ensures ∙ kind-part (a .mask .now) (a .b) (a .s) (room .masked) ∙ kind-stage (a .mask .now) (a .b) (a .s) (a .t) (room .size))) ∙ q),
+        λ q. incoming room (ap (λ (x : Bool). x && isRate01 (kindOf (2 ^ a .t) (part (a .mask .now) (a .b) (a .t)))) (is-cut (c .before .before .before)) ∙ sym (ap isRate01 (c .before .cut-kind .ensures ∙ kind-part (a .mask .now) (a .b) (a .s) (room .masked) ∙ kind-stage (a .mask .now) (a .b) (a .s) (a .t) (room .size))) ∙ q),
       )
 
   visit-same-length : visit-lts.Need-same-length (around t) (visit-at t) visit.Post
@@ -143,7 +153,7 @@ module _ (t : ℕ) where
       let start = c .before .before .before .before .before .before .before .before .before in
       let a = start .args in
       let room = start .pre .1 in
-      visited-cut (a .plan .now) (a .mask .now) (a .n) (a .t) (a .s) (a .p) (a .b) (a .x) (a .first) (a .work .now) (c .before .cut-message .last .0) room (eq-eqb (getD (a .plan .now) (a .p) 0) 1 (c .before .before .before .before .before .if1 .taken))
+      visited-cut (a .plan .now) (a .mask .now) (a .n) (a .t) (a .s) (a .p) (a .b) (a .x) (a .first) (a .work .now) (c .before .cut-message .last .0) room (is-cut (c .before .before .before .before .before))
       (c .before .cut-message .ensures ∙ ap (λ (o : Option Kind). cutWords o (a .work .now) (a .t * a .n + a .b) (a .x) (a .s)) (c .before .before .before .cut-kind .ensures ∙ kind-part (a .mask .now) (a .b) (a .s) (room .masked) ∙ kind-stage (a .mask .now) (a .b) (a .s) (a .t) (room .size)))
 
   visit-sub-u : visit-lts.Need-sub-u (around t) (visit-at t) visit.Post
