@@ -8,7 +8,6 @@ use Rattle.words.specs.Words.{write}
 use Rattle.words.proofs.Signed.{back}
 use Rattle.words.proofs.Halves.{Halves}
 use Rattle.by_list.proofs.Steps.{ListPlace, list-place, halves-next}
-use borrow.Author.Needs.{needs}
 use Rattle.by_list.proofs.by_list_fours.Statement.{statement}
 use Rattle.by_list.proofs.by_list_fours.Tie as tie
 
@@ -34,13 +33,13 @@ place c =
     list-place (a .w .now) (at-loop .loop .w) (a .m) (a .x) (a .l) (a .c) (a .h) (at-loop .loop .k) (start .pre .0 .0) (start .pre .0 .1) (start .pre .0 .2) (start .pre .1 .0) (start .pre .1 .1 .0) (at-loop .loop .inv .1) (at-loop .loop .inv .0)
 
 add-y : tie.Need-add-y Inv-loop μ-loop
-add-y c = search needs
+add-y c = omega arith
 
 add-r : tie.Need-add-r Inv-loop μ-loop
-add-r c = search needs
+add-r c = omega arith
 
 add-g : tie.Need-add-g Inv-loop μ-loop
-add-g c = search needs
+add-g c = omega arith
 
 loop-holds : tie.Need-loop-holds Inv-loop μ-loop
 loop-holds c = (omega arith, unfold write in refl, refl, refl)
@@ -55,7 +54,7 @@ pair-by-list-requires c κs =
     ((omega arith, omega arith, omega arith, omega arith), ((here .left, here .sum), (here .box, here .box-sum)))
 
 add-pair-by-list : tie.Need-add-pair-by-list Inv-loop μ-loop
-add-pair-by-list c = search needs
+add-pair-by-list c = omega arith
 
 pair-by-list-requires-2 : tie.Need-pair-by-list-requires-2 Inv-loop μ-loop
 pair-by-list-requires-2 c κs =
@@ -67,7 +66,7 @@ pair-by-list-requires-2 c κs =
     ((omega arith, omega arith, omega arith, omega arith), ((here .left, here .sum), (here .box, here .box-sum)))
 
 add-pair-by-list-2 : tie.Need-add-pair-by-list-2 Inv-loop μ-loop
-add-pair-by-list-2 c = search needs
+add-pair-by-list-2 c = omega arith
 
 pair-by-list-requires-3 : tie.Need-pair-by-list-requires-3 Inv-loop μ-loop
 pair-by-list-requires-3 c κs =
@@ -79,7 +78,7 @@ pair-by-list-requires-3 c κs =
     ((omega arith, omega arith, omega arith, omega arith), ((here .left, here .sum), (here .box, here .box-sum)))
 
 add-pair-by-list-3 : tie.Need-add-pair-by-list-3 Inv-loop μ-loop
-add-pair-by-list-3 c = search needs
+add-pair-by-list-3 c = omega arith
 
 pair-by-list-requires-4 : tie.Need-pair-by-list-requires-4 Inv-loop μ-loop
 pair-by-list-requires-4 c κs =
@@ -91,7 +90,7 @@ pair-by-list-requires-4 c κs =
     ((omega arith, omega arith, omega arith, omega arith), ((here .left, here .sum), (here .box, here .box-sum)))
 
 add-store-four : tie.Need-add-store-four Inv-loop μ-loop
-add-store-four c = search needs
+add-store-four c = omega arith
 
 store-four-requires : tie.Need-store-four-requires Inv-loop μ-loop
 store-four-requires c κs =

@@ -10,7 +10,6 @@ use Rattle.words.proofs.Signed.{back}
 use Rattle.words.proofs.Store.{store-both}
 use Rattle.words.proofs.Halves.{Halves}
 use Rattle.by_list.proofs.Steps.{ListPlace, list-place}
-use borrow.Author.Needs.{needs}
 use Rattle.by_list.proofs.by_list_ones.Statement.{statement}
 use Rattle.by_list.proofs.by_list_ones.Tie as tie
 
@@ -29,13 +28,13 @@ place c =
     list-place (a .w .now) (at-loop .loop .w) (a .m) (a .x) (a .l) (a .c) (a .h) (at-loop .loop .k) (start .pre .0 .0) (start .pre .0 .1) (start .pre .0 .2) (start .pre .1 .0) (start .pre .1 .1) (at-loop .loop .inv .1) (at-loop .loop .inv .0)
 
 add-y : tie.Need-add-y Inv-loop μ-loop
-add-y c = search needs
+add-y c = omega arith
 
 add-r : tie.Need-add-r Inv-loop μ-loop
-add-r c = search needs
+add-r c = omega arith
 
 add-g : tie.Need-add-g Inv-loop μ-loop
-add-g c = search needs
+add-g c = omega arith
 
 loop-holds : tie.Need-loop-holds Inv-loop μ-loop
 loop-holds c = (omega arith, unfold write in refl, refl)
@@ -49,19 +48,19 @@ pair-by-list-requires c κs =
     ((omega arith, omega arith, omega arith, omega arith), ((here .left, here .sum), (here .box, here .box-sum)))
 
 add-low : tie.Need-add-low Inv-loop μ-loop
-add-low c = search needs
+add-low c = omega arith
 
 mul-low : tie.Need-mul-low Inv-loop μ-loop
-mul-low c = search needs
+mul-low c = omega arith
 
 slice-set-from-low : tie.Need-slice-set-from-low Inv-loop μ-loop
-slice-set-from-low c = search needs
+slice-set-from-low c = omega arith
 
 add-high : tie.Need-add-high Inv-loop μ-loop
-add-high c = search needs
+add-high c = omega arith
 
 mul-high : tie.Need-mul-high Inv-loop μ-loop
-mul-high c = search needs
+mul-high c = omega arith
 
 slice-set-from-high : tie.Need-slice-set-from-high Inv-loop μ-loop
 slice-set-from-high c =
@@ -71,10 +70,10 @@ slice-set-from-high c =
     simp length-set (omega arith)
 
 add-k : tie.Need-add-k Inv-loop μ-loop
-add-k c = search needs
+add-k c = omega arith
 
 loop-less : tie.Need-loop-less Inv-loop μ-loop
-loop-less c = search needs
+loop-less c = omega arith
 
 loop-again : tie.Need-loop-again Inv-loop μ-loop
 loop-again c =

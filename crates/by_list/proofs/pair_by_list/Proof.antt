@@ -1,6 +1,7 @@
 -- `by_list::pair_by_list` meets its contract. Assumes nothing.
 use mathlib.Core.Path.{_≡_, sym, ap₂, _∙_, subst, subst₂}
 use Prim.Native.Nat.{_+_}
+use native.Mathlib.Omega.{arith}
 use lib.IntN.{ℤ, _-ℤ_}
 use mir.Val.{toZ, ofZ}
 use mir.Syntax.{w32}
@@ -35,40 +36,40 @@ box-is c =
     ∙ ap₂ (λ (p q : ℤ). p -ℤ q) (list-is (c .before .before .before .before .before .before)) (high-is (c .before .before .before .before .before))
 
 add-list : tie.Need-add-list
-add-list c = search needs
+add-list c = omega arith
 
 mul-list : tie.Need-mul-list
-mul-list c = search needs
+mul-list c = omega arith
 
 shared-slice-copy-out-list : tie.Need-shared-slice-copy-out-list
-shared-slice-copy-out-list c = search needs
+shared-slice-copy-out-list c = omega arith
 
 add-high : tie.Need-add-high
-add-high c = search needs
+add-high c = omega arith
 
 mul-high : tie.Need-mul-high
-mul-high c = search needs
+mul-high c = omega arith
 
 shared-slice-copy-out-high : tie.Need-shared-slice-copy-out-high
-shared-slice-copy-out-high c = search needs
+shared-slice-copy-out-high c = omega arith
 
 add-left : tie.Need-add-left
-add-left c = search needs
+add-left c = omega arith
 
 mul-left : tie.Need-mul-left
-mul-left c = search needs
+mul-left c = omega arith
 
 shared-slice-copy-out-left : tie.Need-shared-slice-copy-out-left
-shared-slice-copy-out-left c = search needs
+shared-slice-copy-out-left c = omega arith
 
 add-right : tie.Need-add-right
-add-right c = search needs
+add-right c = omega arith
 
 mul-right : tie.Need-mul-right
-mul-right c = search needs
+mul-right c = omega arith
 
 shared-slice-copy-out-right : tie.Need-shared-slice-copy-out-right
-shared-slice-copy-out-right c = search needs
+shared-slice-copy-out-right c = omega arith
 
 add-words-requires : tie.Need-add-words-requires
 add-words-requires c κs = search needs

@@ -11,7 +11,6 @@ use Rattle.classes.proofs.Classes.{strided-skip, sum-turn, sizes-turn, 
 use Rattle.words.specs.Words.{word}
 use Rattle.words.proofs.Signed.{back, fits-word}
 use Rattle.classes.specs.Sums.{strided, sumZ, sizes}
-use borrow.Author.Needs.{needs}
 use Rattle.classes.proofs.class_sum.Statement.{statement}
 use Rattle.classes.proofs.class_sum.Tie as tie
 
@@ -29,10 +28,10 @@ loop-holds c =
     (omega (arith, ap sizes e), +ℤ-idl _ ∙ ap sumZ (sym e))
 
 mul-t : tie.Need-mul-t Inv-loop μ-loop
-mul-t c = search needs
+mul-t c = omega arith
 
 shared-slice-copy-out-t : tie.Need-shared-slice-copy-out-t Inv-loop μ-loop
-shared-slice-copy-out-t c = search needs
+shared-slice-copy-out-t c = omega arith
 
 -- the sum after a turn
 turn : (c : tie.After-t Inv-loop μ-loop) → natAbs (toZ w32 (c .before .before .loop .t) +ℤ word (c .before .before .before .args .l .now) (c .before .before .loop .i)) + sizes (strided (c .before .before .before .args .d) 0 (drop (c .before .before .loop .i + (c .before .before .before .args .d + 1)) (c .before .before .before .args .l .now))) ≤ sizes (strided (c .before .before .before .args .d) (c .before .before .before .args .c) (c .before .before .before .args .l .now))
@@ -43,13 +42,13 @@ add-t c =
     rw (back (c .t .given)) (fits-word _ (omega (arith, turn c, c .before .before .before .pre .1)))
 
 add-i : tie.Need-add-i Inv-loop μ-loop
-add-i c = search needs
+add-i c = omega arith
 
 add-i-2 : tie.Need-add-i-2 Inv-loop μ-loop
-add-i-2 c = search needs
+add-i-2 c = omega arith
 
 loop-less : tie.Need-loop-less Inv-loop μ-loop
-loop-less c = search needs
+loop-less c = omega arith
 
 loop-again : tie.Need-loop-again Inv-loop μ-loop
 loop-again c =

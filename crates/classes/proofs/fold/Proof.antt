@@ -16,7 +16,6 @@ use Rattle.classes.specs.Folds.{fourList, keepSign, lowAt, highAt}
 use Rattle.words.proofs.Signed.{back}
 use Rattle.words.proofs.Store.{store-none, store-both}
 use Rattle.classes.proofs.Columns.{list-at}
-use borrow.Author.Needs.{needs}
 use Rattle.classes.proofs.fold.Statement.{statement}
 use Rattle.classes.proofs.fold.Tie as tie
 
@@ -27,16 +26,16 @@ abbrev μ-loop : tie.MeasureT-loop
 μ-loop w₀ m x q n x1 x2 x3 k₀ w k = q - k
 
 add-n : tie.Need-add-n Inv-loop μ-loop
-add-n c = search needs
+add-n c = omega arith
 
 add-x1 : tie.Need-add-x1 Inv-loop μ-loop
-add-x1 c = search needs
+add-x1 c = omega arith
 
 add-x2 : tie.Need-add-x2 Inv-loop μ-loop
-add-x2 c = search needs
+add-x2 c = omega arith
 
 add-x3 : tie.Need-add-x3 Inv-loop μ-loop
-add-x3 c = search needs
+add-x3 c = omega arith
 
 loop-holds : tie.Need-loop-holds Inv-loop μ-loop
 loop-holds c =
@@ -45,40 +44,40 @@ loop-holds c =
     (omega arith, store-none (pos 0) (a .w .now) (a .m) (lowAt l (a .q)) ∙ store-none (pos 0) (write (a .w .now) (a .m) 0 (lowAt l (a .q))) (a .m + a .q) (highAt l (a .q)), refl)
 
 add-a : tie.Need-add-a Inv-loop μ-loop
-add-a c = search needs
+add-a c = omega arith
 
 mul-a : tie.Need-mul-a Inv-loop μ-loop
-mul-a c = search needs
+mul-a c = omega arith
 
 slice-copy-out-a : tie.Need-slice-copy-out-a Inv-loop μ-loop
-slice-copy-out-a c = search needs
+slice-copy-out-a c = omega arith
 
 add-b : tie.Need-add-b Inv-loop μ-loop
-add-b c = search needs
+add-b c = omega arith
 
 mul-b : tie.Need-mul-b Inv-loop μ-loop
-mul-b c = search needs
+mul-b c = omega arith
 
 slice-copy-out-b : tie.Need-slice-copy-out-b Inv-loop μ-loop
-slice-copy-out-b c = search needs
+slice-copy-out-b c = omega arith
 
 add-c : tie.Need-add-c Inv-loop μ-loop
-add-c c = search needs
+add-c c = omega arith
 
 mul-c : tie.Need-mul-c Inv-loop μ-loop
-mul-c c = search needs
+mul-c c = omega arith
 
 slice-copy-out-c : tie.Need-slice-copy-out-c Inv-loop μ-loop
-slice-copy-out-c c = search needs
+slice-copy-out-c c = omega arith
 
 add-d : tie.Need-add-d Inv-loop μ-loop
-add-d c = search needs
+add-d c = omega arith
 
 mul-d : tie.Need-mul-d Inv-loop μ-loop
-mul-d c = search needs
+mul-d c = omega arith
 
 slice-copy-out-d : tie.Need-slice-copy-out-d Inv-loop μ-loop
-slice-copy-out-d c = search needs
+slice-copy-out-d c = omega arith
 
 -- the words that a turn reads are the list's
 list-is : (c : tie.After-d Inv-loop μ-loop) (j i : ℕ) → let b = c .before .before .before .before .before in b .before .args .x + i ≡ j → word (b .loop .w) j ≡ word (drop (b .before .args .x) (b .before .args .w .now)) i
@@ -122,7 +121,7 @@ least-of-requires c κs =
     (rw (a-is c) (list-word c _ (omega arith)), rw (b-is c) (list-word c _ (omega arith)), rw (c-is c) (list-word c _ (omega arith)), rw (d-is c) (list-word c _ (omega arith)))
 
 parity-of-requires : tie.Need-parity-of-requires Inv-loop μ-loop
-parity-of-requires c κs = search needs
+parity-of-requires c κs = omega arith
 
 next-of-requires : tie.Need-next-of-requires Inv-loop μ-loop
 next-of-requires c κs =
@@ -133,28 +132,28 @@ keep-sign-requires : tie.Need-keep-sign-requires Inv-loop μ-loop
 keep-sign-requires c κs = ap negative (back (c .next-of .ok) ∙ c .next-of .ensures)
 
 add-low : tie.Need-add-low Inv-loop μ-loop
-add-low c = search needs
+add-low c = omega arith
 
 mul-low : tie.Need-mul-low Inv-loop μ-loop
-mul-low c = search needs
+mul-low c = omega arith
 
 slice-set-from-low : tie.Need-slice-set-from-low Inv-loop μ-loop
-slice-set-from-low c = search needs
+slice-set-from-low c = omega arith
 
 add-high : tie.Need-add-high Inv-loop μ-loop
-add-high c = search needs
+add-high c = omega arith
 
 mul-high : tie.Need-mul-high Inv-loop μ-loop
-mul-high c = search needs
+mul-high c = omega arith
 
 slice-set-from-high : tie.Need-slice-set-from-high Inv-loop μ-loop
 slice-set-from-high c = simp length-set (omega arith)
 
 add-k : tie.Need-add-k Inv-loop μ-loop
-add-k c = search needs
+add-k c = omega arith
 
 loop-less : tie.Need-loop-less Inv-loop μ-loop
-loop-less c = search needs
+loop-less c = omega arith
 
 loop-again : tie.Need-loop-again Inv-loop μ-loop
 loop-again c =

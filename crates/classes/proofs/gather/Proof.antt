@@ -5,6 +5,7 @@ use lib.IntN.{ℤ, pos, natAbs}
 use lib.ListN.{length, drop}
 use mathlib.Core.Bool.{Bool, not, Bool·beq}
 use mathlib.Core.List.{List, _∷_}
+use native.Mathlib.Omega.{arith}
 use lib.Signed.{ltZ}
 use mir.Val.{toZ, ofZ}
 use mir.Syntax.{w32}
@@ -13,7 +14,6 @@ use Rattle.words.specs.Words.{xor, word}
 use Rattle.model.specs.Soft.{negative}
 use Rattle.words.proofs.Signed.{back, ltZ-zero}
 use Rattle.classes.specs.Sums.{strided}
-use borrow.Author.Needs.{needs}
 use Rattle.classes.proofs.gather.Statement.{statement}
 use Rattle.classes.proofs.gather.Tie as tie
 
@@ -30,31 +30,31 @@ loop-holds c =
     rw e (gath-none _)
 
 mul-x : tie.Need-mul-x Inv-loop μ-loop
-mul-x c = search needs
+mul-x c = omega arith
 
 shared-slice-copy-out-x : tie.Need-shared-slice-copy-out-x Inv-loop μ-loop
-shared-slice-copy-out-x c = search needs
+shared-slice-copy-out-x c = omega arith
 
 size-word-requires : tie.Need-size-word-requires Inv-loop μ-loop
 size-word-requires c κs = rw (back (c .x .given)) (c .before .before .before .pre .1 (c .before .before .loop .i))
 
 max-size-requires : tie.Need-max-size-requires Inv-loop μ-loop
-max-size-requires c κs = search needs
+max-size-requires c κs = omega arith
 
 min-size-requires : tie.Need-min-size-requires Inv-loop μ-loop
-min-size-requires c κs = search needs
+min-size-requires c κs = omega arith
 
 min-size-requires-2 : tie.Need-min-size-requires-2 Inv-loop μ-loop
-min-size-requires-2 c κs = search needs
+min-size-requires-2 c κs = omega arith
 
 add-i : tie.Need-add-i Inv-loop μ-loop
-add-i c = search needs
+add-i c = omega arith
 
 add-i-2 : tie.Need-add-i-2 Inv-loop μ-loop
-add-i-2 c = search needs
+add-i-2 c = omega arith
 
 loop-less : tie.Need-loop-less Inv-loop μ-loop
-loop-less c = search needs
+loop-less c = omega arith
 
 -- the sizes after a turn
 size-is : (c : tie.After-size-word Inv-loop μ-loop) → c .size-word .result ≡ natAbs (word (c .before .before .before .before .args .l .now) (c .before .before .before .loop .i))

@@ -3,6 +3,7 @@ use mathlib.Core.Path.{_≡_, ap, ap₂, _∙_, subst}
 use mathlib.Core.Bool.{Bool, not, Bool·beq}
 use mathlib.Core.List.{List}
 use Prim.Native.Nat.{ℕ, _+_, _-_, _*_, min, max}
+use native.Mathlib.Omega.{arith}
 use lib.IntN.{ℤ, pos, natAbs}
 use lib.ListN.{length}
 use lib.Signed.{ltZ, mag}
@@ -16,7 +17,6 @@ use Rattle.words.proofs.Signed.{back, ltZ-zero}
 use Rattle.classes.proofs.Classes.{Gath, gath-none, gath-end}
 use Rattle.classes.proofs.Columns.{rest, rest-start, rest-end, column-turn}
 use Rattle.classes.proofs.Sizes.{size-no, pos-fits, mag-kept, negative-kept}
-use borrow.Author.Needs.{needs}
 use Rattle.classes.proofs.gather_folded.Statement.{statement}
 use Rattle.classes.proofs.gather_folded.Tie as tie
 
@@ -28,7 +28,7 @@ abbrev μ-loop : tie.MeasureT-loop
 μ-loop w m q d c n m1₀ m2₀ neg₀ i₀ m1 m2 neg i = q - i
 
 add-n : tie.Need-add-n Inv-loop μ-loop
-add-n c = search needs
+add-n c = omega arith
 
 loop-holds : tie.Need-loop-holds Inv-loop μ-loop
 loop-holds c l len low high =
@@ -37,13 +37,13 @@ loop-holds c l len low high =
     rw (rest-start (a .d) (a .q) l len (a .c) (p .0) (p .1) (p .2)) (gath-none (strided (a .d) (a .c) l))
 
 add-low : tie.Need-add-low Inv-loop μ-loop
-add-low c = search needs
+add-low c = omega arith
 
 mul-low : tie.Need-mul-low Inv-loop μ-loop
-mul-low c = search needs
+mul-low c = omega arith
 
 shared-slice-copy-out-low : tie.Need-shared-slice-copy-out-low Inv-loop μ-loop
-shared-slice-copy-out-low c = search needs
+shared-slice-copy-out-low c = omega arith
 
 cast-low : tie.Need-cast-low Inv-loop μ-loop
 cast-low c =
@@ -52,37 +52,37 @@ cast-low c =
     rw (back (c .low .given) ∙ size-no z (b .before .pre .1 (b .loop .i) (c .before .loop-test .taken))) (pos-fits (mag z) (c .low .given))
 
 add-x : tie.Need-add-x Inv-loop μ-loop
-add-x c = search needs
+add-x c = omega arith
 
 mul-x : tie.Need-mul-x Inv-loop μ-loop
-mul-x c = search needs
+mul-x c = omega arith
 
 shared-slice-copy-out-x : tie.Need-shared-slice-copy-out-x Inv-loop μ-loop
-shared-slice-copy-out-x c = search needs
+shared-slice-copy-out-x c = omega arith
 
 kept-size-requires : tie.Need-kept-size-requires Inv-loop μ-loop
-kept-size-requires c κs = search needs
+kept-size-requires c κs = omega arith
 
 min-size-requires : tie.Need-min-size-requires Inv-loop μ-loop
-min-size-requires c κs = search needs
+min-size-requires c κs = omega arith
 
 max-size-requires : tie.Need-max-size-requires Inv-loop μ-loop
-max-size-requires c κs = search needs
+max-size-requires c κs = omega arith
 
 min-size-requires-2 : tie.Need-min-size-requires-2 Inv-loop μ-loop
-min-size-requires-2 c κs = search needs
+min-size-requires-2 c κs = omega arith
 
 min-size-requires-3 : tie.Need-min-size-requires-3 Inv-loop μ-loop
-min-size-requires-3 c κs = search needs
+min-size-requires-3 c κs = omega arith
 
 add-i : tie.Need-add-i Inv-loop μ-loop
-add-i c = search needs
+add-i c = omega arith
 
 add-i-2 : tie.Need-add-i-2 Inv-loop μ-loop
-add-i-2 c = search needs
+add-i-2 c = omega arith
 
 loop-less : tie.Need-loop-less Inv-loop μ-loop
-loop-less c = search needs
+loop-less c = omega arith
 
 loop-again : tie.Need-loop-again Inv-loop μ-loop
 loop-again c l len low high =

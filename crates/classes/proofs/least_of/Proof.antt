@@ -1,5 +1,6 @@
 -- `classes::least_of` meets its contract: each size is the one of its word, and the smaller of two is their minimum. Assumes nothing.
 use mathlib.Core.Path.{ap, _∙_}
+use native.Mathlib.Omega.{arith}
 use lib.IntN.{ℤ, pos, natAbs}
 use mir.Facts.{toZ-ofZ}
 use Rattle.words.proofs.Signed.{back}
@@ -15,7 +16,7 @@ abs-word-requires-2 : tie.Need-abs-word-requires-2
 abs-word-requires-2 c κs = search needs
 
 min-word-requires : tie.Need-min-word-requires
-min-word-requires c κs = search needs
+min-word-requires c κs = omega arith
 
 abs-word-requires-3 : tie.Need-abs-word-requires-3
 abs-word-requires-3 c κs = search needs
@@ -24,10 +25,10 @@ abs-word-requires-4 : tie.Need-abs-word-requires-4
 abs-word-requires-4 c κs = search needs
 
 min-word-requires-2 : tie.Need-min-word-requires-2
-min-word-requires-2 c κs = search needs
+min-word-requires-2 c κs = omega arith
 
 min-word-requires-3 : tie.Need-min-word-requires-3
-min-word-requires-3 c κs = search needs
+min-word-requires-3 c κs = omega arith
 
 returns : tie.Need-returns
 returns c =

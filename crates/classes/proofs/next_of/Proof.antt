@@ -1,5 +1,6 @@
 -- `classes::next_of` meets its contract: each size is the one of its word, and the smaller and the larger of two are their minimum and maximum. Assumes nothing.
 use mathlib.Core.Path.{ap, _∙_}
+use native.Mathlib.Omega.{arith}
 use lib.IntN.{ℤ, pos, natAbs}
 use mir.Facts.{toZ-ofZ}
 use Rattle.words.proofs.Signed.{back}
@@ -21,25 +22,25 @@ abs-word-requires-4 : tie.Need-abs-word-requires-4
 abs-word-requires-4 c κs = search needs
 
 min-word-requires : tie.Need-min-word-requires
-min-word-requires c κs = search needs
+min-word-requires c κs = omega arith
 
 min-word-requires-2 : tie.Need-min-word-requires-2
-min-word-requires-2 c κs = search needs
+min-word-requires-2 c κs = omega arith
 
 max-word-requires : tie.Need-max-word-requires
-max-word-requires c κs = search needs
+max-word-requires c κs = omega arith
 
 max-word-requires-2 : tie.Need-max-word-requires-2
-max-word-requires-2 c κs = search needs
+max-word-requires-2 c κs = omega arith
 
 max-word-requires-3 : tie.Need-max-word-requires-3
-max-word-requires-3 c κs = search needs
+max-word-requires-3 c κs = omega arith
 
 min-word-requires-3 : tie.Need-min-word-requires-3
-min-word-requires-3 c κs = search needs
+min-word-requires-3 c κs = omega arith
 
 min-word-requires-4 : tie.Need-min-word-requires-4
-min-word-requires-4 c κs = search needs
+min-word-requires-4 c κs = omega arith
 
 returns : tie.Need-returns
 returns c =

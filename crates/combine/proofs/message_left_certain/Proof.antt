@@ -13,7 +13,6 @@ use Rattle.words.proofs.Laws.{box-certain, box-plus-certain, plus-box-certain}
 use Rattle.words.proofs.Store.{store-both}
 use Rattle.words.proofs.Halves.{Halves}
 use Rattle.combine.proofs.Steps.{Sources, sources}
-use borrow.Author.Needs.{needs}
 use Rattle.combine.proofs.message_left_certain.Statement.{statement}
 use Rattle.combine.proofs.message_left_certain.Tie as tie
 
@@ -44,43 +43,43 @@ right-is : (c : tie.After-right Inv-loop μ-loop) → let at-loop = c .before .b
 right-is c = back (c .right .given) ∙ from (c .before .before .before) .right
 
 add-y : tie.Need-add-y Inv-loop μ-loop
-add-y c = search needs
+add-y c = omega arith
 
 add-r : tie.Need-add-r Inv-loop μ-loop
-add-r c = search needs
+add-r c = omega arith
 
 add-g : tie.Need-add-g Inv-loop μ-loop
-add-g c = search needs
+add-g c = omega arith
 
 loop-holds : tie.Need-loop-holds Inv-loop μ-loop
 loop-holds c = (omega arith, unfold write in refl, refl)
 
 add-first : tie.Need-add-first Inv-loop μ-loop
-add-first c = search needs
+add-first c = omega arith
 
 mul-first : tie.Need-mul-first Inv-loop μ-loop
-mul-first c = search needs
+mul-first c = omega arith
 
 slice-copy-out-first : tie.Need-slice-copy-out-first Inv-loop μ-loop
-slice-copy-out-first c = search needs
+slice-copy-out-first c = omega arith
 
 add-second : tie.Need-add-second Inv-loop μ-loop
-add-second c = search needs
+add-second c = omega arith
 
 mul-second : tie.Need-mul-second Inv-loop μ-loop
-mul-second c = search needs
+mul-second c = omega arith
 
 slice-copy-out-second : tie.Need-slice-copy-out-second Inv-loop μ-loop
-slice-copy-out-second c = search needs
+slice-copy-out-second c = omega arith
 
 add-right : tie.Need-add-right Inv-loop μ-loop
-add-right c = search needs
+add-right c = omega arith
 
 mul-right : tie.Need-mul-right Inv-loop μ-loop
-mul-right c = search needs
+mul-right c = omega arith
 
 slice-copy-out-right : tie.Need-slice-copy-out-right Inv-loop μ-loop
-slice-copy-out-right c = search needs
+slice-copy-out-right c = omega arith
 
 add-words-requires : tie.Need-add-words-requires Inv-loop μ-loop
 add-words-requires c κs =
@@ -89,13 +88,13 @@ add-words-requires c κs =
     subst₂ Added (sym (second-is (c .before))) (sym (right-is c)) (start .pre .1 .1 (turn .before .loop .k) (turn .loop-test .taken))
 
 add-w : tie.Need-add-w Inv-loop μ-loop
-add-w c = search needs
+add-w c = omega arith
 
 mul-w : tie.Need-mul-w Inv-loop μ-loop
-mul-w c = search needs
+mul-w c = omega arith
 
 slice-set-from-w : tie.Need-slice-set-from-w Inv-loop μ-loop
-slice-set-from-w c = search needs
+slice-set-from-w c = omega arith
 
 add-words-requires-2 : tie.Need-add-words-requires-2 Inv-loop μ-loop
 add-words-requires-2 c κs =
@@ -107,10 +106,10 @@ add-words-requires-2 c κs =
     subst₂ Added (box-certain (a .w .now) (a .x) (a .l) k (pre .3 k lt) (pre .0 k lt) ∙ sym (first-is (c .before .before .before))) (sym (right-is (c .before))) (pre .2 k lt)
 
 add-t15 : tie.Need-add-t15 Inv-loop μ-loop
-add-t15 c = search needs
+add-t15 c = omega arith
 
 mul-t14 : tie.Need-mul-t14 Inv-loop μ-loop
-mul-t14 c = search needs
+mul-t14 c = omega arith
 
 slice-set-from-w-2 : tie.Need-slice-set-from-w-2 Inv-loop μ-loop
 slice-set-from-w-2 c =
@@ -120,10 +119,10 @@ slice-set-from-w-2 c =
     simp length-set (omega arith)
 
 add-k : tie.Need-add-k Inv-loop μ-loop
-add-k c = search needs
+add-k c = omega arith
 
 loop-less : tie.Need-loop-less Inv-loop μ-loop
-loop-less c = search needs
+loop-less c = omega arith
 
 loop-again : tie.Need-loop-again Inv-loop μ-loop
 loop-again c =

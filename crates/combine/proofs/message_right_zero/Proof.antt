@@ -13,7 +13,6 @@ use Rattle.words.proofs.Laws.{box-plus-zero, plus-box-zero}
 use Rattle.words.proofs.Store.{store-both}
 use Rattle.words.proofs.Halves.{Halves}
 use Rattle.combine.proofs.Steps.{Sources, sources}
-use borrow.Author.Needs.{needs}
 use Rattle.combine.proofs.message_right_zero.Statement.{statement}
 use Rattle.combine.proofs.message_right_zero.Tie as tie
 
@@ -44,40 +43,40 @@ left-is : (c : tie.After-left Inv-loop μ-loop) → let at-loop = c .before .bef
 left-is c = back (c .left .given) ∙ from (c .before .before .before) .left
 
 add-y : tie.Need-add-y Inv-loop μ-loop
-add-y c = search needs
+add-y c = omega arith
 
 add-g : tie.Need-add-g Inv-loop μ-loop
-add-g c = search needs
+add-g c = omega arith
 
 loop-holds : tie.Need-loop-holds Inv-loop μ-loop
 loop-holds c = (omega arith, unfold write in refl, refl)
 
 add-first : tie.Need-add-first Inv-loop μ-loop
-add-first c = search needs
+add-first c = omega arith
 
 mul-first : tie.Need-mul-first Inv-loop μ-loop
-mul-first c = search needs
+mul-first c = omega arith
 
 slice-copy-out-first : tie.Need-slice-copy-out-first Inv-loop μ-loop
-slice-copy-out-first c = search needs
+slice-copy-out-first c = omega arith
 
 add-second : tie.Need-add-second Inv-loop μ-loop
-add-second c = search needs
+add-second c = omega arith
 
 mul-second : tie.Need-mul-second Inv-loop μ-loop
-mul-second c = search needs
+mul-second c = omega arith
 
 slice-copy-out-second : tie.Need-slice-copy-out-second Inv-loop μ-loop
-slice-copy-out-second c = search needs
+slice-copy-out-second c = omega arith
 
 add-left : tie.Need-add-left Inv-loop μ-loop
-add-left c = search needs
+add-left c = omega arith
 
 mul-left : tie.Need-mul-left Inv-loop μ-loop
-mul-left c = search needs
+mul-left c = omega arith
 
 slice-copy-out-left : tie.Need-slice-copy-out-left Inv-loop μ-loop
-slice-copy-out-left c = search needs
+slice-copy-out-left c = omega arith
 
 box-words-requires : tie.Need-box-words-requires Inv-loop μ-loop
 box-words-requires c κs =
@@ -88,13 +87,13 @@ box-words-requires c κs =
     (subst Word (sym (left-is c)) (pre .2 k lt), subst Word (sym (second-is (c .before))) (pre .1 k lt))
 
 add-w : tie.Need-add-w Inv-loop μ-loop
-add-w c = search needs
+add-w c = omega arith
 
 mul-w : tie.Need-mul-w Inv-loop μ-loop
-mul-w c = search needs
+mul-w c = omega arith
 
 slice-set-from-w : tie.Need-slice-set-from-w Inv-loop μ-loop
-slice-set-from-w c = search needs
+slice-set-from-w c = omega arith
 
 box-words-requires-2 : tie.Need-box-words-requires-2 Inv-loop μ-loop
 box-words-requires-2 c κs =
@@ -105,10 +104,10 @@ box-words-requires-2 c κs =
     (subst Word (sym (first-is (c .before .before .before))) (pre .0 k lt), subst Word (sym (left-is (c .before))) (pre .2 k lt))
 
 add-t14 : tie.Need-add-t14 Inv-loop μ-loop
-add-t14 c = search needs
+add-t14 c = omega arith
 
 mul-t13 : tie.Need-mul-t13 Inv-loop μ-loop
-mul-t13 c = search needs
+mul-t13 c = omega arith
 
 slice-set-from-w-2 : tie.Need-slice-set-from-w-2 Inv-loop μ-loop
 slice-set-from-w-2 c =
@@ -118,10 +117,10 @@ slice-set-from-w-2 c =
     simp length-set (omega arith)
 
 add-k : tie.Need-add-k Inv-loop μ-loop
-add-k c = search needs
+add-k c = omega arith
 
 loop-less : tie.Need-loop-less Inv-loop μ-loop
-loop-less c = search needs
+loop-less c = omega arith
 
 loop-again : tie.Need-loop-again Inv-loop μ-loop
 loop-again c =

@@ -5,6 +5,7 @@ use lib.IntN.{ℤ, pos, natAbs, negℤ}
 use mir.Val.{toZ, ofZ}
 use mir.Syntax.{w32}
 use mathlib.Core.Bool.{Bool, cond}
+use native.Mathlib.Omega.{arith}
 use lib.Dec.{eqb}
 use mir.Facts.{toZ-ofZ}
 use Rattle.model.proofs.Lists.{cond-both}
@@ -20,7 +21,7 @@ size-word-requires : tie.Need-size-word-requires
 size-word-requires c κs = search needs
 
 pick-size-requires : tie.Need-pick-size-requires
-pick-size-requires c κs = search needs
+pick-size-requires c κs = omega arith
 
 -- the size, and its bound
 pick-is : (c : tie.After-pick-size) → c .pick-size .result ≡ cond (eqb (natAbs (c .before .before .args .x)) (c .before .before .args .m1)) (c .before .before .args .m2) (c .before .before .args .m1)

@@ -15,7 +15,6 @@ use Rattle.words.specs.Words.{Word, word, write, four}
 use Rattle.extrinsic.specs.Values.{isOdd, leaveOut}
 use Rattle.words.proofs.Signed.{back}
 use Rattle.words.proofs.Store.{store-none, store-next, four-next, source-above}
-use borrow.Author.Needs.{needs}
 use Rattle.extrinsic.proofs.spread_fours.Statement.{statement}
 use Rattle.extrinsic.proofs.spread_fours.Tie as tie
 
@@ -74,77 +73,77 @@ value-is : (l : tie.At-loop Inv-loop μ-loop) (i j m1 m2 : ℕ) (neg : Bool) (v 
 value-is l i j m1 m2 neg v fv ev fi e = back fv ∙ ev ∙ ap (leaveOut m1 m2 neg) (back fi ∙ read-is l i j e)
 
 add-leave-out : tie.Need-add-leave-out Inv-loop μ-loop
-add-leave-out c = search needs
+add-leave-out c = omega arith
 
 mul-leave-out : tie.Need-mul-leave-out Inv-loop μ-loop
-mul-leave-out c = search needs
+mul-leave-out c = omega arith
 
 slice-copy-out-leave-out : tie.Need-slice-copy-out-leave-out Inv-loop μ-loop
-slice-copy-out-leave-out c = search needs
+slice-copy-out-leave-out c = omega arith
 
 leave-out-requires : tie.Need-leave-out-requires Inv-loop μ-loop
 leave-out-requires c κs =
     (rw (back (c .leave-out-arg .given)) (read-word (c .before) _ (omega arith) (omega arith)), (omega arith, omega arith))
 
 add-leave-out-2 : tie.Need-add-leave-out-2 Inv-loop μ-loop
-add-leave-out-2 c = search needs
+add-leave-out-2 c = omega arith
 
 add-leave-out-3 : tie.Need-add-leave-out-3 Inv-loop μ-loop
-add-leave-out-3 c = search needs
+add-leave-out-3 c = omega arith
 
 mul-leave-out-2 : tie.Need-mul-leave-out-2 Inv-loop μ-loop
-mul-leave-out-2 c = search needs
+mul-leave-out-2 c = omega arith
 
 slice-copy-out-leave-out-2 : tie.Need-slice-copy-out-leave-out-2 Inv-loop μ-loop
-slice-copy-out-leave-out-2 c = search needs
+slice-copy-out-leave-out-2 c = omega arith
 
 leave-out-requires-2 : tie.Need-leave-out-requires-2 Inv-loop μ-loop
 leave-out-requires-2 c κs =
     (rw (back (c .leave-out-arg2 .given)) (read-word (c .before .before .before) _ (omega arith) (omega arith)), (omega arith, omega arith))
 
 add-leave-out-4 : tie.Need-add-leave-out-4 Inv-loop μ-loop
-add-leave-out-4 c = search needs
+add-leave-out-4 c = omega arith
 
 add-leave-out-5 : tie.Need-add-leave-out-5 Inv-loop μ-loop
-add-leave-out-5 c = search needs
+add-leave-out-5 c = omega arith
 
 mul-leave-out-3 : tie.Need-mul-leave-out-3 Inv-loop μ-loop
-mul-leave-out-3 c = search needs
+mul-leave-out-3 c = omega arith
 
 slice-copy-out-leave-out-3 : tie.Need-slice-copy-out-leave-out-3 Inv-loop μ-loop
-slice-copy-out-leave-out-3 c = search needs
+slice-copy-out-leave-out-3 c = omega arith
 
 leave-out-requires-3 : tie.Need-leave-out-requires-3 Inv-loop μ-loop
 leave-out-requires-3 c κs =
     (rw (back (c .leave-out-arg3 .given)) (read-word (c .before .before .before .before .before) _ (omega arith) (omega arith)), (omega arith, omega arith))
 
 add-leave-out-6 : tie.Need-add-leave-out-6 Inv-loop μ-loop
-add-leave-out-6 c = search needs
+add-leave-out-6 c = omega arith
 
 add-leave-out-7 : tie.Need-add-leave-out-7 Inv-loop μ-loop
-add-leave-out-7 c = search needs
+add-leave-out-7 c = omega arith
 
 mul-leave-out-4 : tie.Need-mul-leave-out-4 Inv-loop μ-loop
-mul-leave-out-4 c = search needs
+mul-leave-out-4 c = omega arith
 
 slice-copy-out-leave-out-4 : tie.Need-slice-copy-out-leave-out-4 Inv-loop μ-loop
-slice-copy-out-leave-out-4 c = search needs
+slice-copy-out-leave-out-4 c = omega arith
 
 leave-out-requires-4 : tie.Need-leave-out-requires-4 Inv-loop μ-loop
 leave-out-requires-4 c κs =
     (rw (back (c .leave-out-arg4 .given)) (read-word (c .before .before .before .before .before .before .before) _ (omega arith) (omega arith)), (omega arith, omega arith))
 
 add-store-four : tie.Need-add-store-four Inv-loop μ-loop
-add-store-four c = search needs
+add-store-four c = omega arith
 
 store-four-requires : tie.Need-store-four-requires Inv-loop μ-loop
-store-four-requires c κs = search needs
+store-four-requires c κs = omega arith
 
 add-k : tie.Need-add-k Inv-loop μ-loop
-add-k c = search needs
+add-k c = omega arith
 
 loop-less : tie.Need-loop-less Inv-loop μ-loop
-loop-less c = search needs
+loop-less c = omega arith
 
 loop-again : tie.Need-loop-again Inv-loop μ-loop
 loop-again c =
@@ -169,7 +168,7 @@ loop-again c =
     )
 
 same-length : tie.Need-same-length Inv-loop μ-loop
-same-length c = search needs
+same-length c = omega arith
 
 returns : tie.Need-returns Inv-loop μ-loop
 returns c =

@@ -12,7 +12,6 @@ use Rattle.model.specs.Soft.{mark}
 use Rattle.extrinsic.specs.Values.{isOdd, leaveOut}
 use Rattle.words.proofs.Signed.{back}
 use Rattle.words.proofs.Store.{store-none, store-more, source-above}
-use borrow.Author.Needs.{needs}
 use Rattle.extrinsic.proofs.spread_ones.Statement.{statement}
 use Rattle.extrinsic.proofs.spread_ones.Tie as tie
 
@@ -27,22 +26,22 @@ loop-holds c =
     (omega arith, store-none (pos 0) _ _ _, refl)
 
 pick-size-requires : tie.Need-pick-size-requires Inv-loop μ-loop
-pick-size-requires c κs = search needs
+pick-size-requires c κs = omega arith
 
 pick-size-requires-2 : tie.Need-pick-size-requires-2 Inv-loop μ-loop
-pick-size-requires-2 c κs = search needs
+pick-size-requires-2 c κs = omega arith
 
 pick-bool-requires : tie.Need-pick-bool-requires Inv-loop μ-loop
-pick-bool-requires c κs = search needs
+pick-bool-requires c κs = omega arith
 
 add-leave-out : tie.Need-add-leave-out Inv-loop μ-loop
-add-leave-out c = search needs
+add-leave-out c = omega arith
 
 mul-leave-out : tie.Need-mul-leave-out Inv-loop μ-loop
-mul-leave-out c = search needs
+mul-leave-out c = omega arith
 
 slice-copy-out-leave-out : tie.Need-slice-copy-out-leave-out Inv-loop μ-loop
-slice-copy-out-leave-out c = search needs
+slice-copy-out-leave-out c = omega arith
 
 own-is : (c : tie.After-leave-out-arg Inv-loop μ-loop) → let at-loop = c .before .before .before .before .before in word (at-loop .loop .w) (at-loop .before .args .x + at-loop .loop .k) ≡ word (at-loop .before .args .w .now) (at-loop .before .args .x + at-loop .loop .k)
 own-is c =
@@ -64,19 +63,19 @@ leave-out-requires c κs =
     )
 
 add-v : tie.Need-add-v Inv-loop μ-loop
-add-v c = search needs
+add-v c = omega arith
 
 mul-v : tie.Need-mul-v Inv-loop μ-loop
-mul-v c = search needs
+mul-v c = omega arith
 
 slice-set-from-v : tie.Need-slice-set-from-v Inv-loop μ-loop
-slice-set-from-v c = search needs
+slice-set-from-v c = omega arith
 
 add-k : tie.Need-add-k Inv-loop μ-loop
-add-k c = search needs
+add-k c = omega arith
 
 loop-less : tie.Need-loop-less Inv-loop μ-loop
-loop-less c = search needs
+loop-less c = omega arith
 
 loop-again : tie.Need-loop-again Inv-loop μ-loop
 loop-again c =

@@ -13,7 +13,6 @@ use Rattle.words.specs.Words.{word, write}
 use Rattle.extrinsic.specs.Values.{isOdd}
 use Rattle.words.proofs.Signed.{back, fits-word}
 use Rattle.words.proofs.Store.{store-none, store-more, source-above}
-use borrow.Author.Needs.{needs}
 use Rattle.extrinsic.proofs.subtract.Statement.{statement}
 use Rattle.extrinsic.proofs.subtract.Tie as tie
 
@@ -60,34 +59,34 @@ loop-holds c =
     (omega arith, store-none (pos 0) _ _ _, refl)
 
 pick-word-requires : tie.Need-pick-word-requires Inv-loop μ-loop
-pick-word-requires c κs = search needs
+pick-word-requires c κs = omega arith
 
 add-own : tie.Need-add-own Inv-loop μ-loop
-add-own c = search needs
+add-own c = omega arith
 
 mul-own : tie.Need-mul-own Inv-loop μ-loop
-mul-own c = search needs
+mul-own c = omega arith
 
 slice-copy-out-own : tie.Need-slice-copy-out-own Inv-loop μ-loop
-slice-copy-out-own c = search needs
+slice-copy-out-own c = omega arith
 
 sub-v : tie.Need-sub-v Inv-loop μ-loop
 sub-v c = fits c
 
 add-v : tie.Need-add-v Inv-loop μ-loop
-add-v c = search needs
+add-v c = omega arith
 
 mul-v : tie.Need-mul-v Inv-loop μ-loop
-mul-v c = search needs
+mul-v c = omega arith
 
 slice-set-from-v : tie.Need-slice-set-from-v Inv-loop μ-loop
-slice-set-from-v c = search needs
+slice-set-from-v c = omega arith
 
 add-k : tie.Need-add-k Inv-loop μ-loop
-add-k c = search needs
+add-k c = omega arith
 
 loop-less : tie.Need-loop-less Inv-loop μ-loop
-loop-less c = search needs
+loop-less c = omega arith
 
 same-length : tie.Need-same-length Inv-loop μ-loop
 same-length c =

@@ -5,7 +5,6 @@ use lib.IntN.{pos}
 use Prim.Native.Nat.{ℕ, _+_, _-_, _≤_}
 use native.Mathlib.Omega.{arith}
 use native.Mathlib.Nat.{le-antisymm}
-use borrow.Author.Needs.{needs}
 use lib.ListN.{length, length-set}
 use Rattle.words.specs.Words.{write, addWord, plusFront}
 use Rattle.words.proofs.Store.{store-none, store-more, source-above, source-below}
@@ -22,19 +21,19 @@ loop-holds : tie.Need-loop-holds Inv-loop μ-loop
 loop-holds c = (omega arith, store-none (pos 0) _ _ _, refl)
 
 add-add-finite : tie.Need-add-add-finite Inv-loop μ-loop
-add-add-finite c = search needs
+add-add-finite c = omega arith
 
 mul-add-finite : tie.Need-mul-add-finite Inv-loop μ-loop
-mul-add-finite c = search needs
+mul-add-finite c = omega arith
 
 slice-copy-out-add-finite : tie.Need-slice-copy-out-add-finite Inv-loop μ-loop
-slice-copy-out-add-finite c = search needs
+slice-copy-out-add-finite c = omega arith
 
 mul-add-finite-2 : tie.Need-mul-add-finite-2 Inv-loop μ-loop
-mul-add-finite-2 c = search needs
+mul-add-finite-2 c = omega arith
 
 slice-copy-out-add-finite-2 : tie.Need-slice-copy-out-add-finite-2 Inv-loop μ-loop
-slice-copy-out-add-finite-2 c = search needs
+slice-copy-out-add-finite-2 c = omega arith
 
 add-finite-requires : tie.Need-add-finite-requires Inv-loop μ-loop
 add-finite-requires c κs =
@@ -49,19 +48,19 @@ add-finite-requires c κs =
     rw (back (c .before .add-finite-arg .given), back (c .add-finite-arg2 .given), own, front) (start .pre .1 (at-loop .loop .k) lt)
 
 add-t14 : tie.Need-add-t14 Inv-loop μ-loop
-add-t14 c = search needs
+add-t14 c = omega arith
 
 mul-t15 : tie.Need-mul-t15 Inv-loop μ-loop
-mul-t15 c = search needs
+mul-t15 c = omega arith
 
 slice-set-from-part : tie.Need-slice-set-from-part Inv-loop μ-loop
-slice-set-from-part c = search needs
+slice-set-from-part c = omega arith
 
 add-k : tie.Need-add-k Inv-loop μ-loop
-add-k c = search needs
+add-k c = omega arith
 
 loop-less : tie.Need-loop-less Inv-loop μ-loop
-loop-less c = search needs
+loop-less c = omega arith
 
 loop-again : tie.Need-loop-again Inv-loop μ-loop
 loop-again c =

@@ -5,7 +5,6 @@ use lib.IntN.{pos}
 use Prim.Native.Nat.{ℕ, _-_, _≤_}
 use native.Mathlib.Omega.{arith}
 use native.Mathlib.Nat.{le-antisymm}
-use borrow.Author.Needs.{needs}
 use lib.ListN.{length, length-set}
 use Rattle.words.specs.Words.{write, boxWord, boxAt}
 use Rattle.words.proofs.Store.{store-none, store-more, source}
@@ -22,22 +21,22 @@ loop-holds : tie.Need-loop-holds Inv-loop μ-loop
 loop-holds c = (omega arith, store-none (pos 0) _ _ _, refl)
 
 add-box-words : tie.Need-add-box-words Inv-loop μ-loop
-add-box-words c = search needs
+add-box-words c = omega arith
 
 mul-box-words : tie.Need-mul-box-words Inv-loop μ-loop
-mul-box-words c = search needs
+mul-box-words c = omega arith
 
 slice-copy-out-box-words : tie.Need-slice-copy-out-box-words Inv-loop μ-loop
-slice-copy-out-box-words c = search needs
+slice-copy-out-box-words c = omega arith
 
 add-box-words-2 : tie.Need-add-box-words-2 Inv-loop μ-loop
-add-box-words-2 c = search needs
+add-box-words-2 c = omega arith
 
 mul-box-words-2 : tie.Need-mul-box-words-2 Inv-loop μ-loop
-mul-box-words-2 c = search needs
+mul-box-words-2 c = omega arith
 
 slice-copy-out-box-words-2 : tie.Need-slice-copy-out-box-words-2 Inv-loop μ-loop
-slice-copy-out-box-words-2 c = search needs
+slice-copy-out-box-words-2 c = omega arith
 
 box-words-requires : tie.Need-box-words-requires Inv-loop μ-loop
 box-words-requires c κs =
@@ -52,19 +51,19 @@ box-words-requires c κs =
     (rw (back (c .before .box-words-arg .given), sa) (start .pre .1 .1 .0 (at-loop .loop .k) lt), rw (back (c .box-words-arg2 .given), sb) (start .pre .1 .1 .1 (at-loop .loop .k) lt))
 
 add-t17 : tie.Need-add-t17 Inv-loop μ-loop
-add-t17 c = search needs
+add-t17 c = omega arith
 
 mul-t18 : tie.Need-mul-t18 Inv-loop μ-loop
-mul-t18 c = search needs
+mul-t18 c = omega arith
 
 slice-set-from-w : tie.Need-slice-set-from-w Inv-loop μ-loop
-slice-set-from-w c = search needs
+slice-set-from-w c = omega arith
 
 add-k : tie.Need-add-k Inv-loop μ-loop
-add-k c = search needs
+add-k c = omega arith
 
 loop-less : tie.Need-loop-less Inv-loop μ-loop
-loop-less c = search needs
+loop-less c = omega arith
 
 loop-again : tie.Need-loop-again Inv-loop μ-loop
 loop-again c =

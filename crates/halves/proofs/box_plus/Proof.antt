@@ -5,7 +5,6 @@ use lib.IntN.{pos}
 use Prim.Native.Nat.{ℕ, _-_, _≤_}
 use native.Mathlib.Omega.{arith}
 use native.Mathlib.Nat.{le-antisymm}
-use borrow.Author.Needs.{needs}
 use lib.ListN.{length, length-set}
 use Rattle.words.specs.Words.{write, boxWord, addWord, boxPlus}
 use Rattle.words.proofs.Store.{store-none, store-more, source}
@@ -22,31 +21,31 @@ loop-holds : tie.Need-loop-holds Inv-loop μ-loop
 loop-holds c = (omega arith, store-none (pos 0) _ _ _, refl)
 
 add-box-words : tie.Need-add-box-words Inv-loop μ-loop
-add-box-words c = search needs
+add-box-words c = omega arith
 
 mul-box-words : tie.Need-mul-box-words Inv-loop μ-loop
-mul-box-words c = search needs
+mul-box-words c = omega arith
 
 slice-copy-out-box-words : tie.Need-slice-copy-out-box-words Inv-loop μ-loop
-slice-copy-out-box-words c = search needs
+slice-copy-out-box-words c = omega arith
 
 add-add-words : tie.Need-add-add-words Inv-loop μ-loop
-add-add-words c = search needs
+add-add-words c = omega arith
 
 mul-add-words : tie.Need-mul-add-words Inv-loop μ-loop
-mul-add-words c = search needs
+mul-add-words c = omega arith
 
 slice-copy-out-add-words : tie.Need-slice-copy-out-add-words Inv-loop μ-loop
-slice-copy-out-add-words c = search needs
+slice-copy-out-add-words c = omega arith
 
 add-add-words-2 : tie.Need-add-add-words-2 Inv-loop μ-loop
-add-add-words-2 c = search needs
+add-add-words-2 c = omega arith
 
 mul-add-words-2 : tie.Need-mul-add-words-2 Inv-loop μ-loop
-mul-add-words-2 c = search needs
+mul-add-words-2 c = omega arith
 
 slice-copy-out-add-words-2 : tie.Need-slice-copy-out-add-words-2 Inv-loop μ-loop
-slice-copy-out-add-words-2 c = search needs
+slice-copy-out-add-words-2 c = omega arith
 
 add-words-requires : tie.Need-add-words-requires Inv-loop μ-loop
 add-words-requires c κs =
@@ -74,19 +73,19 @@ box-words-requires c κs =
     (rw (back (c .before .before .before .box-words-arg .given), sa) (start .pre .1 .1 .0 (at-loop .loop .k) lt), rw (back (c .add-words .ok), c .add-words .ensures, back (c .before .before .add-words-arg .given), back (c .before .add-words-arg2 .given), sb, sc) (start .pre .1 .1 .1 (at-loop .loop .k) lt .1))
 
 add-t23 : tie.Need-add-t23 Inv-loop μ-loop
-add-t23 c = search needs
+add-t23 c = omega arith
 
 mul-t24 : tie.Need-mul-t24 Inv-loop μ-loop
-mul-t24 c = search needs
+mul-t24 c = omega arith
 
 slice-set-from-w : tie.Need-slice-set-from-w Inv-loop μ-loop
-slice-set-from-w c = search needs
+slice-set-from-w c = omega arith
 
 add-k : tie.Need-add-k Inv-loop μ-loop
-add-k c = search needs
+add-k c = omega arith
 
 loop-less : tie.Need-loop-less Inv-loop μ-loop
-loop-less c = search needs
+loop-less c = omega arith
 
 loop-again : tie.Need-loop-again Inv-loop μ-loop
 loop-again c =

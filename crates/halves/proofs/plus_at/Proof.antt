@@ -10,7 +10,6 @@ use mir.Syntax.{w32}
 use Rattle.words.specs.Words.{word, write, Finite, addWord, plusAt}
 use Rattle.words.proofs.Signed.{back}
 use Rattle.words.proofs.Store.{store-none, store-more, source}
-use borrow.Author.Needs.{needs}
 use Rattle.halves.proofs.plus_at.Statement.{statement}
 use Rattle.halves.proofs.plus_at.Tie as tie
 
@@ -39,22 +38,22 @@ loop-holds : tie.Need-loop-holds Inv-loop μ-loop
 loop-holds c = (omega arith, store-none (pos 0) _ _ _, refl)
 
 add-add-finite : tie.Need-add-add-finite Inv-loop μ-loop
-add-add-finite c = search needs
+add-add-finite c = omega arith
 
 mul-add-finite : tie.Need-mul-add-finite Inv-loop μ-loop
-mul-add-finite c = search needs
+mul-add-finite c = omega arith
 
 slice-copy-out-add-finite : tie.Need-slice-copy-out-add-finite Inv-loop μ-loop
-slice-copy-out-add-finite c = search needs
+slice-copy-out-add-finite c = omega arith
 
 add-add-finite-2 : tie.Need-add-add-finite-2 Inv-loop μ-loop
-add-add-finite-2 c = search needs
+add-add-finite-2 c = omega arith
 
 mul-add-finite-2 : tie.Need-mul-add-finite-2 Inv-loop μ-loop
-mul-add-finite-2 c = search needs
+mul-add-finite-2 c = omega arith
 
 slice-copy-out-add-finite-2 : tie.Need-slice-copy-out-add-finite-2 Inv-loop μ-loop
-slice-copy-out-add-finite-2 c = search needs
+slice-copy-out-add-finite-2 c = omega arith
 
 add-finite-requires : tie.Need-add-finite-requires Inv-loop μ-loop
 add-finite-requires c κs =
@@ -62,19 +61,19 @@ add-finite-requires c κs =
     subst₂ Finite (sym (first-is (c .before))) (sym (second-is c)) (turn .before .before .pre .1 .1 (turn .before .loop .k) (turn .loop-test .taken))
 
 add-t17 : tie.Need-add-t17 Inv-loop μ-loop
-add-t17 c = search needs
+add-t17 c = omega arith
 
 mul-t18 : tie.Need-mul-t18 Inv-loop μ-loop
-mul-t18 c = search needs
+mul-t18 c = omega arith
 
 slice-set-from-w : tie.Need-slice-set-from-w Inv-loop μ-loop
-slice-set-from-w c = search needs
+slice-set-from-w c = omega arith
 
 add-k : tie.Need-add-k Inv-loop μ-loop
-add-k c = search needs
+add-k c = omega arith
 
 loop-less : tie.Need-loop-less Inv-loop μ-loop
-loop-less c = search needs
+loop-less c = omega arith
 
 loop-again : tie.Need-loop-again Inv-loop μ-loop
 loop-again c =

@@ -11,19 +11,19 @@ box-at-requires : tie.Need-box-at-requires
 box-at-requires c κs = search needs
 
 sub-far : tie.Need-sub-far
-sub-far c = search needs
+sub-far c = omega arith
 
 mul-add-front : tie.Need-mul-add-front
-mul-add-front c = search needs
+mul-add-front c = omega arith
 
 sub-add-front : tie.Need-sub-add-front
-sub-add-front c = search needs
+sub-add-front c = omega arith
 
 part-add-front-start : tie.Need-part-add-front-start
-part-add-front-start c = search needs
+part-add-front-start c = omega arith
 
 part-add-front-end : tie.Need-part-add-front-end
-part-add-front-end c = search needs
+part-add-front-end c = omega arith
 
 add-front-requires : tie.Need-add-front-requires
 add-front-requires c κs =
@@ -34,7 +34,7 @@ add-front-requires c κs =
     (omega arith, λ k lt. subst₂ Finite (sym (front-own (a .w .now) (called .box-at .last .0) (a .d) (a .a) (a .b) (a .c) (a .h) (start .pre .0 .0) (start .pre .0 .3) (called .box-at .ensures) k lt)) (sym (front-other (a .w .now) (called .box-at .last .0) (a .d) (a .a) (a .b) (a .c) (a .h) (start .pre .0 .0) (start .pre .0 .3) (called .box-at .ensures) k lt)) (start .pre .1 .1 .2 k lt))
 
 same-length : tie.Need-same-length
-same-length c = search needs
+same-length c = omega arith
 
 returns : tie.Need-returns
 returns c =

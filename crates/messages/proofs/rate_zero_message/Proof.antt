@@ -1,17 +1,17 @@
 -- `messages::rate_zero_message` meets its contract: the word of each value is the mark. Assumes nothing.
 use mathlib.Core.Path.{_∙_}
+use native.Mathlib.Omega.{arith}
 use lib.IntN.{pos}
 use Rattle.words.proofs.Store.{write-ext}
 use Rattle.messages.proofs.Messages.{zero-value}
-use borrow.Author.Needs.{needs}
 use Rattle.messages.proofs.rate_zero_message.Statement.{statement}
 use Rattle.messages.proofs.rate_zero_message.Tie as tie
 
 fill-requires : tie.Need-fill-requires
-fill-requires c κs = search needs
+fill-requires c κs = omega arith
 
 same-length : tie.Need-same-length
-same-length c = search needs
+same-length c = omega arith
 
 returns : tie.Need-returns
 returns c L =

@@ -9,7 +9,6 @@ use Rattle.extrinsic.specs.Values.{isOdd, leaveOut}
 use Rattle.classes.proofs.Classes.{least-mark, next-mark}
 use Rattle.messages.proofs.Messages.{partOf, words-in, spc-value}
 use Rattle.messages.proofs.Folded.{Scratch, quarter-all, folded-length, folded-fits, list-kept, words-kept, message-over, part-four, low-holds, high-holds, low-sizes}
-use borrow.Author.Needs.{needs}
 use Rattle.messages.proofs.spc_large.Statement.{statement}
 use Rattle.messages.proofs.spc_large.Tie as tie
 
@@ -51,7 +50,7 @@ spread-requires c κs =
     )
 
 same-length : tie.Need-same-length
-same-length c = search needs
+same-length c = omega arith
 
 returns : tie.Need-returns
 returns c =

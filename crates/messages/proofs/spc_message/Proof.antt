@@ -1,10 +1,11 @@
 -- `messages::spc_message` meets its contract: both ways do. Assumes nothing.
+use native.Mathlib.Omega.{arith}
 use borrow.Author.Needs.{needs}
 use Rattle.messages.proofs.spc_message.Statement.{statement}
 use Rattle.messages.proofs.spc_message.Tie as tie
 
 is-large-requires : tie.Need-is-large-requires
-is-large-requires c κs = search needs
+is-large-requires c κs = omega arith
 
 spc-large-requires : tie.Need-spc-large-requires
 spc-large-requires c κs =
@@ -15,13 +16,13 @@ spc-small-requires : tie.Need-spc-small-requires
 spc-small-requires c κs = search needs
 
 same-length : tie.Need-same-length
-same-length c = search needs
+same-length c = omega arith
 
 returns : tie.Need-returns
 returns c = search needs
 
 same-length-2 : tie.Need-same-length-2
-same-length-2 c = search needs
+same-length-2 c = omega arith
 
 returns-2 : tie.Need-returns-2
 returns-2 c = search needs

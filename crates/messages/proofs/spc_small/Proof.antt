@@ -10,24 +10,23 @@ use Rattle.extrinsic.specs.Values.{isOdd, leaveOut}
 use Rattle.words.proofs.Store.{write-ext}
 use Rattle.classes.proofs.Classes.{least-mark, next-mark}
 use Rattle.messages.proofs.Messages.{partOf, words-in, part-words, spc-value}
-use borrow.Author.Needs.{needs}
 use Rattle.messages.proofs.spc_small.Statement.{statement}
 use Rattle.messages.proofs.spc_small.Tie as tie
 
 add-e : tie.Need-add-e
-add-e c = search needs
+add-e c = omega arith
 
 mul-gather : tie.Need-mul-gather
-mul-gather c = search needs
+mul-gather c = omega arith
 
 sub-gather : tie.Need-sub-gather
-sub-gather c = search needs
+sub-gather c = omega arith
 
 part-gather-start : tie.Need-part-gather-start
-part-gather-start c = search needs
+part-gather-start c = omega arith
 
 part-gather-end : tie.Need-part-gather-end
-part-gather-end c = search needs
+part-gather-end c = omega arith
 
 gather-requires : tie.Need-gather-requires
 gather-requires c κs =
@@ -44,7 +43,7 @@ spread-requires c κs =
     (s .pre .0, (words-in (a .w .now) (a .x) (a .s) (s .pre .0 .1) (s .pre .1), (rw (g .0) (least-mark (strided 0 0 l)), rw (g .1) (next-mark (strided 0 0 l)), rw (g .0) (least-mark (strided 0 0 l)), rw (g .1) (next-mark (strided 0 0 l)))))
 
 same-length : tie.Need-same-length
-same-length c = search needs
+same-length c = omega arith
 
 returns : tie.Need-returns
 returns c =

@@ -10,24 +10,23 @@ use Rattle.extrinsic.specs.Values.{isOdd, leaveOut}
 use Rattle.words.proofs.Store.{write-ext}
 use Rattle.classes.proofs.Classes.{least-mark, next-mark}
 use Rattle.messages.proofs.Messages.{partOf, words-in, part-words, three-value}
-use borrow.Author.Needs.{needs}
 use Rattle.messages.proofs.type_three_small.Statement.{statement}
 use Rattle.messages.proofs.type_three_small.Tie as tie
 
 add-e : tie.Need-add-e
-add-e c = search needs
+add-e c = omega arith
 
 mul-gather : tie.Need-mul-gather
-mul-gather c = search needs
+mul-gather c = omega arith
 
 sub-gather : tie.Need-sub-gather
-sub-gather c = search needs
+sub-gather c = omega arith
 
 part-gather-start : tie.Need-part-gather-start
-part-gather-start c = search needs
+part-gather-start c = omega arith
 
 part-gather-end : tie.Need-part-gather-end
-part-gather-end c = search needs
+part-gather-end c = omega arith
 
 gather-requires : tie.Need-gather-requires
 gather-requires c κs =
@@ -36,16 +35,16 @@ gather-requires c κs =
     (omega arith, part-words (a .w .now) (a .x) (a .s) (s .pre .0 .1) (s .pre .1))
 
 mul-gather-2 : tie.Need-mul-gather-2
-mul-gather-2 c = search needs
+mul-gather-2 c = omega arith
 
 sub-gather-2 : tie.Need-sub-gather-2
-sub-gather-2 c = search needs
+sub-gather-2 c = omega arith
 
 part-gather-start-2 : tie.Need-part-gather-start-2
-part-gather-start-2 c = search needs
+part-gather-start-2 c = omega arith
 
 part-gather-end-2 : tie.Need-part-gather-end-2
-part-gather-end-2 c = search needs
+part-gather-end-2 c = omega arith
 
 gather-requires-2 : tie.Need-gather-requires-2
 gather-requires-2 c κs =
@@ -63,7 +62,7 @@ spread-requires c κs =
     (s .pre .0, (words-in (a .w .now) (a .x) (a .s) (s .pre .0 .1) (s .pre .1), (rw (g .0) (least-mark (strided 1 0 l)), rw (g .1) (next-mark (strided 1 0 l)), rw (o .0) (least-mark (strided 1 1 l)), rw (o .1) (next-mark (strided 1 1 l)))))
 
 same-length : tie.Need-same-length
-same-length c = search needs
+same-length c = omega arith
 
 returns : tie.Need-returns
 returns c =
