@@ -1,0 +1,51 @@
+-- `line_test::cases::shorter` is safe and ends. The loop's invariant: the step is above 0, and at most one above the text's length. Assumes nothing.
+use Prim.Native.Nat.{_+_, _-_, _<_, _≤_}
+use lib.ListN.{length}
+use borrow.Author.Needs.{needs}
+use Rattle.line_test.proofs.cases.shorter.Statement.{statement}
+use Rattle.line_test.proofs.cases.shorter.Tie as tie
+
+abbrev Inv-loop : tie.InvT-loop
+Inv-loop number «record» input text sum₀ step room₀ sum room = (0 < step) × (step ≤ length text + 1)
+
+abbrev μ-loop : tie.MeasureT-loop
+μ-loop number «record» input text sum₀ step room₀ sum room = length text - room
+
+step-for-requires : tie.Need-step-for-requires Inv-loop μ-loop
+step-for-requires c κs = search needs
+
+loop-holds : tie.Need-loop-holds Inv-loop μ-loop
+loop-holds c = search needs
+
+answered-requires : tie.Need-answered-requires Inv-loop μ-loop
+answered-requires c κs = search needs
+
+counted-requires : tie.Need-counted-requires Inv-loop μ-loop
+counted-requires c κs = search needs
+
+add-room : tie.Need-add-room Inv-loop μ-loop
+add-room c = search needs
+
+loop-less : tie.Need-loop-less Inv-loop μ-loop
+loop-less c = search needs
+
+loop-again : tie.Need-loop-again Inv-loop μ-loop
+loop-again c = search needs
+
+returns : tie.Need-returns Inv-loop μ-loop
+returns c = search needs
+
+pub shorter-spec : {M : Type 1} → statement M
+shorter-spec =
+    tie.close
+    (tie.spec
+    Inv-loop
+    μ-loop
+    step-for-requires
+    loop-holds
+    answered-requires
+    counted-requires
+    add-room
+    loop-less
+    loop-again
+    returns)
