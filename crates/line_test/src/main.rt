@@ -83,7 +83,7 @@ fn run(file: &[u8]) -> Tally {
 }
 
 fn main() {
-    let mut file = [0u8; 262144];
+    let mut file = [0u8; 131072];
     let n = io::read_full(0, &mut file);
     let t = run(front(&file, n));
     report(b"all", t.all_cases, t.all);
