@@ -42,6 +42,25 @@ right-is : (c : tie.After-right Inv-loop μ-loop) → let at-loop = c .before .b
     toZ w32 (ofZ w32 (word (at-loop .loop .w) (a .l + a .h + at-loop .loop .k))) ≡ word (a .w .now) (a .l + a .h + at-loop .loop .k)
 right-is c = back (c .right .given) ∙ from (c .before .before .before) .right
 
+-- ---- and stores
+loop-again : tie.Need-loop-again Inv-loop μ-loop
+loop-again c =
+    let reads = c .before .before in
+    let turn = reads .before .before .before in
+    let at-loop = turn .before in
+    let a = at-loop .before .args in
+    let pre = at-loop .before .pre .1 in
+    let k = at-loop .loop .k in
+    let lt = turn .loop-test .taken in (
+      omega arith,
+      store-both (pos 0) (a .w .now) (at-loop .loop .w) (a .m) (a .h) k _ _ _ _ lt (at-loop .loop .inv .1)
+          (back (c .before .add-words .ok) ∙ c .before .add-words .ensures ∙ ap₂ addWord (second-is (reads .before)) (right-is reads)
+          ∙ sym (box-plus-certain (a .w .now) (a .l) (a .x + a .h) (a .l + a .h) k (pre .3 k lt) (pre .1 k lt .1)))
+          (back (c .add-words2 .ok) ∙ c .add-words2 .ensures ∙ ap₂ addWord (first-is (reads .before .before)) (right-is reads)
+          ∙ sym (plus-box-certain (a .w .now) (a .x) (a .l) (a .l + a .h) k (pre .3 k lt) (pre .0 k lt))),
+      simp length-set (at-loop .loop .inv .2),
+    )
+
 add-y : tie.Need-add-y Inv-loop μ-loop
 add-y c = omega arith
 
@@ -123,24 +142,6 @@ add-k c = omega arith
 
 loop-less : tie.Need-loop-less Inv-loop μ-loop
 loop-less c = omega arith
-
-loop-again : tie.Need-loop-again Inv-loop μ-loop
-loop-again c =
-    let reads = c .before .before in
-    let turn = reads .before .before .before in
-    let at-loop = turn .before in
-    let a = at-loop .before .args in
-    let pre = at-loop .before .pre .1 in
-    let k = at-loop .loop .k in
-    let lt = turn .loop-test .taken in (
-      omega arith,
-      store-both (pos 0) (a .w .now) (at-loop .loop .w) (a .m) (a .h) k _ _ _ _ lt (at-loop .loop .inv .1)
-          (back (c .before .add-words .ok) ∙ c .before .add-words .ensures ∙ ap₂ addWord (second-is (reads .before)) (right-is reads)
-          ∙ sym (box-plus-certain (a .w .now) (a .l) (a .x + a .h) (a .l + a .h) k (pre .3 k lt) (pre .1 k lt .1)))
-          (back (c .add-words2 .ok) ∙ c .add-words2 .ensures ∙ ap₂ addWord (first-is (reads .before .before)) (right-is reads)
-          ∙ sym (plus-box-certain (a .w .now) (a .x) (a .l) (a .l + a .h) k (pre .3 k lt) (pre .0 k lt))),
-      simp length-set (at-loop .loop .inv .2),
-    )
 
 same-length : tie.Need-same-length Inv-loop μ-loop
 same-length c = c .before .loop .inv .2

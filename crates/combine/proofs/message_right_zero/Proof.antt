@@ -42,6 +42,25 @@ left-is : (c : tie.After-left Inv-loop μ-loop) → let at-loop = c .before .bef
     toZ w32 (ofZ w32 (word (at-loop .loop .w) (a .l + at-loop .loop .k))) ≡ word (a .w .now) (a .l + at-loop .loop .k)
 left-is c = back (c .left .given) ∙ from (c .before .before .before) .left
 
+-- ---- and stores
+loop-again : tie.Need-loop-again Inv-loop μ-loop
+loop-again c =
+    let reads = c .before .before in
+    let turn = reads .before .before .before in
+    let at-loop = turn .before in
+    let a = at-loop .before .args in
+    let k = at-loop .loop .k in
+    let lt = turn .loop-test .taken in
+    let none = at-loop .before .pre .1 .3 k lt in (
+      omega arith,
+      store-both (pos 0) (a .w .now) (at-loop .loop .w) (a .m) (a .h) k _ _ _ _ lt (at-loop .loop .inv .1)
+          (back (c .before .box-words .ok) ∙ c .before .box-words .ensures ∙ ap₂ boxWord (left-is reads) (second-is (reads .before))
+          ∙ sym (box-plus-zero (a .w .now) (a .l) (a .x + a .h) (a .l + a .h) k none))
+          (back (c .box-words2 .ok) ∙ c .box-words2 .ensures ∙ ap₂ boxWord (first-is (reads .before .before)) (left-is reads)
+          ∙ sym (plus-box-zero (a .w .now) (a .x) (a .l) (a .l + a .h) k none)),
+      simp length-set (at-loop .loop .inv .2),
+    )
+
 add-y : tie.Need-add-y Inv-loop μ-loop
 add-y c = omega arith
 
@@ -121,24 +140,6 @@ add-k c = omega arith
 
 loop-less : tie.Need-loop-less Inv-loop μ-loop
 loop-less c = omega arith
-
-loop-again : tie.Need-loop-again Inv-loop μ-loop
-loop-again c =
-    let reads = c .before .before in
-    let turn = reads .before .before .before in
-    let at-loop = turn .before in
-    let a = at-loop .before .args in
-    let k = at-loop .loop .k in
-    let lt = turn .loop-test .taken in
-    let none = at-loop .before .pre .1 .3 k lt in (
-      omega arith,
-      store-both (pos 0) (a .w .now) (at-loop .loop .w) (a .m) (a .h) k _ _ _ _ lt (at-loop .loop .inv .1)
-          (back (c .before .box-words .ok) ∙ c .before .box-words .ensures ∙ ap₂ boxWord (left-is reads) (second-is (reads .before))
-          ∙ sym (box-plus-zero (a .w .now) (a .l) (a .x + a .h) (a .l + a .h) k none))
-          (back (c .box-words2 .ok) ∙ c .box-words2 .ensures ∙ ap₂ boxWord (first-is (reads .before .before)) (left-is reads)
-          ∙ sym (plus-box-zero (a .w .now) (a .x) (a .l) (a .l + a .h) k none)),
-      simp length-set (at-loop .loop .inv .2),
-    )
 
 same-length : tie.Need-same-length Inv-loop μ-loop
 same-length c = c .before .loop .inv .2

@@ -1,12 +1,14 @@
 -- `halves::add_front` meets its contract. The loop's invariant: the first k sums are stored. Assumes nothing.
-use Rattle.words.proofs.Signed.{back}
-use mathlib.Core.Path.{_≡_, refl, ap, ap₂, _∙_}
+use mathlib.Core.Path.{_≡_, refl, sym, ap, ap₂, _∙_, subst₂}
 use lib.IntN.{pos}
 use Prim.Native.Nat.{ℕ, _+_, _-_, _≤_}
 use native.Mathlib.Omega.{arith}
 use native.Mathlib.Nat.{le-antisymm}
 use lib.ListN.{length, length-set}
-use Rattle.words.specs.Words.{write, addWord, plusFront}
+use mir.Val.{toZ, ofZ}
+use mir.Syntax.{w32}
+use Rattle.words.specs.Words.{Finite, word, write, addWord, plusFront}
+use Rattle.words.proofs.Signed.{back}
 use Rattle.words.proofs.Store.{store-none, store-more, source-above, source-below}
 use Rattle.halves.proofs.add_front.Statement.{statement}
 use Rattle.halves.proofs.add_front.Tie as tie
@@ -16,6 +18,21 @@ Inv-loop part₀ d h k₀ part k = (k ≤ h) × (part ≡ write part₀ d k (plu
 
 abbrev μ-loop : tie.MeasureT-loop
 μ-loop part₀ d h k₀ part k = h - k
+
+-- ---- what a turn reads, by the words at entry
+own-is : (c : tie.After-add-finite-arg Inv-loop μ-loop) → let at-loop = c .before .before in let a = at-loop .before .args in
+    toZ w32 (ofZ w32 (word (at-loop .loop .part) (a .d + at-loop .loop .k))) ≡ word (a .part .now) (a .d + at-loop .loop .k)
+own-is c =
+    let at-loop = c .before .before in
+    let a = at-loop .before .args in
+    back (c .add-finite-arg .given) ∙ source-above (pos 0) (a .part .now) (at-loop .loop .part) _ _ _ (a .d + at-loop .loop .k) (at-loop .loop .inv .1) (omega arith)
+
+front-is : (c : tie.After-add-finite-arg2 Inv-loop μ-loop) → let at-loop = c .before .before .before in let a = at-loop .before .args in
+    toZ w32 (ofZ w32 (word (at-loop .loop .part) (at-loop .loop .k))) ≡ word (a .part .now) (at-loop .loop .k)
+front-is c =
+    let at-loop = c .before .before .before in
+    let a = at-loop .before .args in
+    back (c .add-finite-arg2 .given) ∙ source-below (pos 0) (a .part .now) (at-loop .loop .part) _ _ _ (at-loop .loop .k) (at-loop .loop .inv .1) (omega arith)
 
 loop-holds : tie.Need-loop-holds Inv-loop μ-loop
 loop-holds c = (omega arith, store-none (pos 0) _ _ _, refl)
@@ -37,15 +54,8 @@ slice-copy-out-add-finite-2 c = omega arith
 
 add-finite-requires : tie.Need-add-finite-requires Inv-loop μ-loop
 add-finite-requires c κs =
-    let in-turn = c .before .before in
-    let at-loop = in-turn .before in
-    let start = at-loop .before in
-    let a = start .args in
-    let e = at-loop .loop .inv .1 in
-    let lt = in-turn .loop-test .taken in
-    let own = source-above (pos 0) (a .part .now) (at-loop .loop .part) (a .d) (at-loop .loop .k) (plusFront (a .part .now) (a .d)) (a .d + at-loop .loop .k) e (omega arith) in
-    let front = source-below (pos 0) (a .part .now) (at-loop .loop .part) (a .d) (at-loop .loop .k) (plusFront (a .part .now) (a .d)) (at-loop .loop .k) e (omega arith) in
-    rw (back (c .before .add-finite-arg .given), back (c .add-finite-arg2 .given), own, front) (start .pre .1 (at-loop .loop .k) lt)
+    let turn = c .before .before in
+    subst₂ Finite (sym (own-is (c .before))) (sym (front-is c)) (turn .before .before .pre .1 (turn .before .loop .k) (turn .loop-test .taken))
 
 add-t14 : tie.Need-add-t14 Inv-loop μ-loop
 add-t14 c = omega arith
@@ -64,14 +74,13 @@ loop-less c = omega arith
 
 loop-again : tie.Need-loop-again Inv-loop μ-loop
 loop-again c =
-    let in-turn = c .before .before .before in
-    let at-loop = in-turn .before in
-    let start = at-loop .before in
-    let a = start .args in
-    let e = at-loop .loop .inv .1 in
-    let own = source-above (pos 0) (a .part .now) (at-loop .loop .part) (a .d) (at-loop .loop .k) (plusFront (a .part .now) (a .d)) (a .d + at-loop .loop .k) e (omega arith) in
-    let front = source-below (pos 0) (a .part .now) (at-loop .loop .part) (a .d) (at-loop .loop .k) (plusFront (a .part .now) (a .d)) (at-loop .loop .k) e (omega arith) in
-    (omega arith, store-more (pos 0) (a .part .now) (at-loop .loop .part) (a .d) (at-loop .loop .k) _ (plusFront (a .part .now) (a .d)) e (back (c .add-finite .ok) ∙ c .add-finite .ensures ∙ ap₂ addWord (back (c .before .before .add-finite-arg .given) ∙ own) (back (c .before .add-finite-arg2 .given) ∙ front)), simp length-set (at-loop .loop .inv .2))
+    let at-loop = c .before .before .before .before in
+    let a = at-loop .before .args in (
+      omega arith,
+      store-more (pos 0) (a .part .now) (at-loop .loop .part) (a .d) (at-loop .loop .k) _ _ (at-loop .loop .inv .1)
+          (back (c .add-finite .ok) ∙ c .add-finite .ensures ∙ ap₂ addWord (own-is (c .before .before)) (front-is (c .before))),
+      simp length-set (at-loop .loop .inv .2),
+    )
 
 same-length : tie.Need-same-length Inv-loop μ-loop
 same-length c = c .before .loop .inv .2

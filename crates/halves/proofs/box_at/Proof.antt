@@ -1,12 +1,14 @@
 -- `halves::box_at` meets its contract. The loop's invariant: the first k words are stored. Assumes nothing.
-use Rattle.words.proofs.Signed.{back}
-use mathlib.Core.Path.{_≡_, refl, ap, ap₂, _∙_}
+use mathlib.Core.Path.{_≡_, refl, sym, ap, ap₂, _∙_, subst}
 use lib.IntN.{pos}
-use Prim.Native.Nat.{ℕ, _-_, _≤_}
+use Prim.Native.Nat.{ℕ, _+_, _-_, _≤_}
 use native.Mathlib.Omega.{arith}
 use native.Mathlib.Nat.{le-antisymm}
 use lib.ListN.{length, length-set}
-use Rattle.words.specs.Words.{write, boxWord, boxAt}
+use mir.Val.{toZ, ofZ}
+use mir.Syntax.{w32}
+use Rattle.words.specs.Words.{Word, word, write, boxWord, boxAt}
+use Rattle.words.proofs.Signed.{back}
 use Rattle.words.proofs.Store.{store-none, store-more, source}
 use Rattle.halves.proofs.box_at.Statement.{statement}
 use Rattle.halves.proofs.box_at.Tie as tie
@@ -16,6 +18,21 @@ Inv-loop w₀ d a b h k₀ w k = (k ≤ h) × (w ≡ write w₀ d k (boxAt w₀ 
 
 abbrev μ-loop : tie.MeasureT-loop
 μ-loop w₀ d a b h k₀ w k = h - k
+
+-- ---- what a turn reads, by the words at entry
+first-is : (c : tie.After-box-words-arg Inv-loop μ-loop) → let at-loop = c .before .before in let a = at-loop .before .args in
+    toZ w32 (ofZ w32 (word (at-loop .loop .w) (a .a + at-loop .loop .k))) ≡ word (a .w .now) (a .a + at-loop .loop .k)
+first-is c =
+    let at-loop = c .before .before in
+    let start = at-loop .before in
+    back (c .box-words-arg .given) ∙ source (pos 0) (start .args .w .now) (at-loop .loop .w) _ _ _ _ (start .args .a) (at-loop .loop .inv .1) (start .pre .1 .0 .0) (c .before .loop-test .taken)
+
+second-is : (c : tie.After-box-words-arg2 Inv-loop μ-loop) → let at-loop = c .before .before .before in let a = at-loop .before .args in
+    toZ w32 (ofZ w32 (word (at-loop .loop .w) (a .b + at-loop .loop .k))) ≡ word (a .w .now) (a .b + at-loop .loop .k)
+second-is c =
+    let at-loop = c .before .before .before in
+    let start = at-loop .before in
+    back (c .box-words-arg2 .given) ∙ source (pos 0) (start .args .w .now) (at-loop .loop .w) _ _ _ _ (start .args .b) (at-loop .loop .inv .1) (start .pre .1 .0 .1) (c .before .before .loop-test .taken)
 
 loop-holds : tie.Need-loop-holds Inv-loop μ-loop
 loop-holds c = (omega arith, store-none (pos 0) _ _ _, refl)
@@ -40,15 +57,11 @@ slice-copy-out-box-words-2 c = omega arith
 
 box-words-requires : tie.Need-box-words-requires Inv-loop μ-loop
 box-words-requires c κs =
-    let in-turn = c .before .before in
-    let at-loop = in-turn .before in
-    let start = at-loop .before in
-    let a = start .args in
-    let e = at-loop .loop .inv .1 in
-    let lt = in-turn .loop-test .taken in
-    let sa = source (pos 0) (a .w .now) (at-loop .loop .w) (a .d) (at-loop .loop .k) (a .h) (boxAt (a .w .now) (a .a) (a .b)) (a .a) e (start .pre .1 .0 .0) lt in
-    let sb = source (pos 0) (a .w .now) (at-loop .loop .w) (a .d) (at-loop .loop .k) (a .h) (boxAt (a .w .now) (a .a) (a .b)) (a .b) e (start .pre .1 .0 .1) lt in
-    (rw (back (c .before .box-words-arg .given), sa) (start .pre .1 .1 .0 (at-loop .loop .k) lt), rw (back (c .box-words-arg2 .given), sb) (start .pre .1 .1 .1 (at-loop .loop .k) lt))
+    let turn = c .before .before in
+    let pre = turn .before .before .pre .1 .1 in
+    let k = turn .before .loop .k in
+    let lt = turn .loop-test .taken in
+    (subst Word (sym (first-is (c .before))) (pre .0 k lt), subst Word (sym (second-is c)) (pre .1 k lt))
 
 add-t17 : tie.Need-add-t17 Inv-loop μ-loop
 add-t17 c = omega arith
@@ -67,14 +80,13 @@ loop-less c = omega arith
 
 loop-again : tie.Need-loop-again Inv-loop μ-loop
 loop-again c =
-    let in-turn = c .before .before .before in
-    let at-loop = in-turn .before in
-    let start = at-loop .before in
-    let a = start .args in
-    let e = at-loop .loop .inv .1 in
-    let sa = source (pos 0) (a .w .now) (at-loop .loop .w) (a .d) (at-loop .loop .k) (a .h) (boxAt (a .w .now) (a .a) (a .b)) (a .a) e (start .pre .1 .0 .0) (in-turn .loop-test .taken) in
-    let sb = source (pos 0) (a .w .now) (at-loop .loop .w) (a .d) (at-loop .loop .k) (a .h) (boxAt (a .w .now) (a .a) (a .b)) (a .b) e (start .pre .1 .0 .1) (in-turn .loop-test .taken) in
-    (omega arith, store-more (pos 0) (a .w .now) (at-loop .loop .w) (a .d) (at-loop .loop .k) _ (boxAt (a .w .now) (a .a) (a .b)) e (back (c .box-words .ok) ∙ c .box-words .ensures ∙ ap₂ boxWord (back (c .before .before .box-words-arg .given) ∙ sa) (back (c .before .box-words-arg2 .given) ∙ sb)), simp length-set (at-loop .loop .inv .2))
+    let at-loop = c .before .before .before .before in
+    let a = at-loop .before .args in (
+      omega arith,
+      store-more (pos 0) (a .w .now) (at-loop .loop .w) (a .d) (at-loop .loop .k) _ _ (at-loop .loop .inv .1)
+          (back (c .box-words .ok) ∙ c .box-words .ensures ∙ ap₂ boxWord (first-is (c .before .before)) (second-is (c .before))),
+      simp length-set (at-loop .loop .inv .2),
+    )
 
 same-length : tie.Need-same-length Inv-loop μ-loop
 same-length c = c .before .loop .inv .2

@@ -1,12 +1,14 @@
 -- `halves::box_plus` meets its contract. The loop's invariant: the first k words are stored. Assumes nothing.
-use Rattle.words.proofs.Signed.{back}
-use mathlib.Core.Path.{_≡_, refl, ap, ap₂, _∙_}
+use mathlib.Core.Path.{_≡_, refl, sym, ap, ap₂, _∙_, subst, subst₂}
 use lib.IntN.{pos}
-use Prim.Native.Nat.{ℕ, _-_, _≤_}
+use Prim.Native.Nat.{ℕ, _+_, _-_, _≤_}
 use native.Mathlib.Omega.{arith}
 use native.Mathlib.Nat.{le-antisymm}
 use lib.ListN.{length, length-set}
-use Rattle.words.specs.Words.{write, boxWord, addWord, boxPlus}
+use mir.Val.{toZ, ofZ}
+use mir.Syntax.{w32}
+use Rattle.words.specs.Words.{Word, Added, word, write, boxWord, addWord, boxPlus}
+use Rattle.words.proofs.Signed.{back}
 use Rattle.words.proofs.Store.{store-none, store-more, source}
 use Rattle.halves.proofs.box_plus.Statement.{statement}
 use Rattle.halves.proofs.box_plus.Tie as tie
@@ -16,6 +18,32 @@ Inv-loop w₀ d a b c h k₀ w k = (k ≤ h) × (w ≡ write w₀ d k (boxPlus w
 
 abbrev μ-loop : tie.MeasureT-loop
 μ-loop w₀ d a b c h k₀ w k = h - k
+
+-- ---- what a turn reads and finds, by the words at entry
+first-is : (c : tie.After-box-words-arg Inv-loop μ-loop) → let at-loop = c .before .before in let a = at-loop .before .args in
+    toZ w32 (ofZ w32 (word (at-loop .loop .w) (a .a + at-loop .loop .k))) ≡ word (a .w .now) (a .a + at-loop .loop .k)
+first-is c =
+    let at-loop = c .before .before in
+    let start = at-loop .before in
+    back (c .box-words-arg .given) ∙ source (pos 0) (start .args .w .now) (at-loop .loop .w) _ _ _ _ (start .args .a) (at-loop .loop .inv .1) (start .pre .1 .0 .0) (c .before .loop-test .taken)
+
+second-is : (c : tie.After-add-words-arg Inv-loop μ-loop) → let at-loop = c .before .before .before in let a = at-loop .before .args in
+    toZ w32 (ofZ w32 (word (at-loop .loop .w) (a .b + at-loop .loop .k))) ≡ word (a .w .now) (a .b + at-loop .loop .k)
+second-is c =
+    let at-loop = c .before .before .before in
+    let start = at-loop .before in
+    back (c .add-words-arg .given) ∙ source (pos 0) (start .args .w .now) (at-loop .loop .w) _ _ _ _ (start .args .b) (at-loop .loop .inv .1) (start .pre .1 .0 .1) (c .before .before .loop-test .taken)
+
+third-is : (c : tie.After-add-words-arg2 Inv-loop μ-loop) → let at-loop = c .before .before .before .before in let a = at-loop .before .args in
+    toZ w32 (ofZ w32 (word (at-loop .loop .w) (a .c + at-loop .loop .k))) ≡ word (a .w .now) (a .c + at-loop .loop .k)
+third-is c =
+    let at-loop = c .before .before .before .before in
+    let start = at-loop .before in
+    back (c .add-words-arg2 .given) ∙ source (pos 0) (start .args .w .now) (at-loop .loop .w) _ _ _ _ (start .args .c) (at-loop .loop .inv .1) (start .pre .1 .0 .2) (c .before .before .before .loop-test .taken)
+
+sum-is : (c : tie.After-add-words Inv-loop μ-loop) → let at-loop = c .before .before .before .before .before in let a = at-loop .before .args in
+    toZ w32 (ofZ w32 (c .add-words .result)) ≡ addWord (word (a .w .now) (a .b + at-loop .loop .k)) (word (a .w .now) (a .c + at-loop .loop .k))
+sum-is c = back (c .add-words .ok) ∙ c .add-words .ensures ∙ ap₂ addWord (second-is (c .before .before)) (third-is (c .before))
 
 loop-holds : tie.Need-loop-holds Inv-loop μ-loop
 loop-holds c = (omega arith, store-none (pos 0) _ _ _, refl)
@@ -49,28 +77,16 @@ slice-copy-out-add-words-2 c = omega arith
 
 add-words-requires : tie.Need-add-words-requires Inv-loop μ-loop
 add-words-requires c κs =
-    let in-turn = c .before .before .before in
-    let at-loop = in-turn .before in
-    let start = at-loop .before in
-    let a = start .args in
-    let e = at-loop .loop .inv .1 in
-    let lt = in-turn .loop-test .taken in
-    let sb = source (pos 0) (a .w .now) (at-loop .loop .w) (a .d) (at-loop .loop .k) (a .h) (boxPlus (a .w .now) (a .a) (a .b) (a .c)) (a .b) e (start .pre .1 .0 .1) lt in
-    let sc = source (pos 0) (a .w .now) (at-loop .loop .w) (a .d) (at-loop .loop .k) (a .h) (boxPlus (a .w .now) (a .a) (a .b) (a .c)) (a .c) e (start .pre .1 .0 .2) lt in
-    rw (back (c .before .add-words-arg .given), back (c .add-words-arg2 .given), sb, sc) (start .pre .1 .1 .1 (at-loop .loop .k) lt)
+    let turn = c .before .before .before in
+    subst₂ Added (sym (second-is (c .before))) (sym (third-is c)) (turn .before .before .pre .1 .1 .1 (turn .before .loop .k) (turn .loop-test .taken))
 
 box-words-requires : tie.Need-box-words-requires Inv-loop μ-loop
 box-words-requires c κs =
-    let in-turn = c .before .before .before .before in
-    let at-loop = in-turn .before in
-    let start = at-loop .before in
-    let a = start .args in
-    let e = at-loop .loop .inv .1 in
-    let lt = in-turn .loop-test .taken in
-    let sa = source (pos 0) (a .w .now) (at-loop .loop .w) (a .d) (at-loop .loop .k) (a .h) (boxPlus (a .w .now) (a .a) (a .b) (a .c)) (a .a) e (start .pre .1 .0 .0) lt in
-    let sb = source (pos 0) (a .w .now) (at-loop .loop .w) (a .d) (at-loop .loop .k) (a .h) (boxPlus (a .w .now) (a .a) (a .b) (a .c)) (a .b) e (start .pre .1 .0 .1) lt in
-    let sc = source (pos 0) (a .w .now) (at-loop .loop .w) (a .d) (at-loop .loop .k) (a .h) (boxPlus (a .w .now) (a .a) (a .b) (a .c)) (a .c) e (start .pre .1 .0 .2) lt in
-    (rw (back (c .before .before .before .box-words-arg .given), sa) (start .pre .1 .1 .0 (at-loop .loop .k) lt), rw (back (c .add-words .ok), c .add-words .ensures, back (c .before .before .add-words-arg .given), back (c .before .add-words-arg2 .given), sb, sc) (start .pre .1 .1 .1 (at-loop .loop .k) lt .1))
+    let turn = c .before .before .before .before in
+    let pre = turn .before .before .pre .1 .1 in
+    let k = turn .before .loop .k in
+    let lt = turn .loop-test .taken in
+    (subst Word (sym (first-is (c .before .before .before))) (pre .0 k lt), subst Word (sym (sum-is c)) (pre .1 k lt .1))
 
 add-t23 : tie.Need-add-t23 Inv-loop μ-loop
 add-t23 c = omega arith
@@ -89,15 +105,13 @@ loop-less c = omega arith
 
 loop-again : tie.Need-loop-again Inv-loop μ-loop
 loop-again c =
-    let in-turn = c .before .before .before .before .before in
-    let at-loop = in-turn .before in
-    let start = at-loop .before in
-    let a = start .args in
-    let e = at-loop .loop .inv .1 in
-    let sa = source (pos 0) (a .w .now) (at-loop .loop .w) (a .d) (at-loop .loop .k) (a .h) (boxPlus (a .w .now) (a .a) (a .b) (a .c)) (a .a) e (start .pre .1 .0 .0) (in-turn .loop-test .taken) in
-    let sb = source (pos 0) (a .w .now) (at-loop .loop .w) (a .d) (at-loop .loop .k) (a .h) (boxPlus (a .w .now) (a .a) (a .b) (a .c)) (a .b) e (start .pre .1 .0 .1) (in-turn .loop-test .taken) in
-    let sc = source (pos 0) (a .w .now) (at-loop .loop .w) (a .d) (at-loop .loop .k) (a .h) (boxPlus (a .w .now) (a .a) (a .b) (a .c)) (a .c) e (start .pre .1 .0 .2) (in-turn .loop-test .taken) in
-    (omega arith, store-more (pos 0) (a .w .now) (at-loop .loop .w) (a .d) (at-loop .loop .k) _ (boxPlus (a .w .now) (a .a) (a .b) (a .c)) e (back (c .box-words .ok) ∙ c .box-words .ensures ∙ ap₂ boxWord (back (c .before .before .before .before .box-words-arg .given) ∙ sa) (back (c .before .add-words .ok) ∙ c .before .add-words .ensures ∙ ap₂ addWord (back (c .before .before .before .add-words-arg .given) ∙ sb) (back (c .before .before .add-words-arg2 .given) ∙ sc))), simp length-set (at-loop .loop .inv .2))
+    let at-loop = c .before .before .before .before .before .before in
+    let a = at-loop .before .args in (
+      omega arith,
+      store-more (pos 0) (a .w .now) (at-loop .loop .w) (a .d) (at-loop .loop .k) _ _ (at-loop .loop .inv .1)
+          (back (c .box-words .ok) ∙ c .box-words .ensures ∙ ap₂ boxWord (first-is (c .before .before .before .before)) (sum-is (c .before))),
+      simp length-set (at-loop .loop .inv .2),
+    )
 
 same-length : tie.Need-same-length Inv-loop μ-loop
 same-length c = c .before .loop .inv .2

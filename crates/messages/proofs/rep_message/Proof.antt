@@ -2,6 +2,7 @@
 use mathlib.Core.Path.{_≡_, ap, _∙_}
 use mathlib.Core.Bool.{cond}
 use Prim.Native.Nat.{ℕ, _+_}
+use native.Mathlib.Nat.{le-trans}
 use native.Mathlib.Omega.{arith}
 use lib.IntN.{ℤ, pos, _-ℤ_}
 use mir.Val.{toZ, ofZ}
@@ -35,7 +36,7 @@ class-sum-requires : tie.Need-class-sum-requires
 class-sum-requires c κs =
     let s = c .before .before in
     let a = s .args in
-    (omega arith, omega (arith, sizes-strided 0 0 (partOf (a .w .now) (a .x) (a .s)), part-sizes (a .w .now) (a .x) (a .s) (s .pre .0 .1) (s .pre .1)))
+    (omega arith, le-trans (sizes-strided _ _ _) (part-sizes (a .w .now) (a .x) (a .s) (s .pre .0 .1) (s .pre .1)))
 
 total-is : (c : tie.After-class-sum) → let a = c .before .before .before .args in toZ w32 (ofZ w32 (c .class-sum .result)) ≡ sumZ (strided 0 0 (partOf (a .w .now) (a .x) (a .s)))
 total-is c = back (c .class-sum .ok) ∙ c .class-sum .ensures

@@ -1,8 +1,9 @@
 -- `messages::spc_large` meets its contract: what is gathered from the folded quarter gives the box of the others, and the message is stored over it. Assumes nothing.
 use mathlib.Core.Path.{_≡_, ap, _∙_}
 use mathlib.Core.Bool.{cond}
-use Prim.Native.Nat.{ℕ, _+_}
+use Prim.Native.Nat.{ℕ, _+_, _≤_}
 use native.Mathlib.Omega.{arith}
+use Rattle.model.specs.Soft.{mark}
 use Rattle.words.specs.Words.{word, write}
 use Rattle.classes.specs.Sums.{strided, least, next, parity}
 use Rattle.extrinsic.specs.Values.{isOdd, leaveOut}
@@ -41,12 +42,10 @@ spread-requires c κs =
     let a = s .args in
     let h = scratch (c .before .before .before .before) in
     let g = all-is (c .before) in
-    let l = partOf (a .w .now) (a .x) (a .s) in (
+    let low : c .before .gather-folded .result .least ≤ mark = rw (g .0) (least-mark _) in
+    let next : c .before .gather-folded .result .next ≤ mark = rw (g .1) (next-mark _) in (
       (s .pre .0 .0, omega (arith, folded-length h)),
-      (
-        words-kept h (words-in (a .w .now) (a .x) (a .s) (s .pre .0 .1) (s .pre .1 .0)),
-        (rw (g .0) (least-mark (strided 0 0 l)), rw (g .1) (next-mark (strided 0 0 l)), rw (g .0) (least-mark (strided 0 0 l)), rw (g .1) (next-mark (strided 0 0 l))),
-      ),
+      (words-kept h (words-in (a .w .now) (a .x) (a .s) (s .pre .0 .1) (s .pre .1 .0)), (omega arith, omega arith, omega arith, omega arith)),
     )
 
 same-length : tie.Need-same-length

@@ -1,15 +1,15 @@
 -- `messages::spc_small` meets its contract: what was gathered over all places gives the box of the others. Assumes nothing.
 use mathlib.Core.Path.{_∙_}
 use mathlib.Core.Bool.{cond}
-use Prim.Native.Nat.{ℕ, _+_}
+use Prim.Native.Nat.{ℕ, _+_, _≤_}
 use native.Mathlib.Omega.{arith}
 use lib.IntN.{pos}
+use Rattle.model.specs.Soft.{mark}
 use Rattle.words.specs.Words.{word, write}
-use Rattle.classes.specs.Sums.{strided}
 use Rattle.extrinsic.specs.Values.{isOdd, leaveOut}
 use Rattle.words.proofs.Store.{write-ext}
 use Rattle.classes.proofs.Classes.{least-mark, next-mark}
-use Rattle.messages.proofs.Messages.{partOf, words-in, part-words, spc-value}
+use Rattle.messages.proofs.Messages.{words-in, part-words, spc-value}
 use Rattle.messages.proofs.spc_small.Statement.{statement}
 use Rattle.messages.proofs.spc_small.Tie as tie
 
@@ -39,8 +39,9 @@ spread-requires c κs =
     let s = c .before .before .before .before in
     let a = s .args in
     let g = c .before .gather .ensures in
-    let l = partOf (a .w .now) (a .x) (a .s) in
-    (s .pre .0, (words-in (a .w .now) (a .x) (a .s) (s .pre .0 .1) (s .pre .1), (rw (g .0) (least-mark (strided 0 0 l)), rw (g .1) (next-mark (strided 0 0 l)), rw (g .0) (least-mark (strided 0 0 l)), rw (g .1) (next-mark (strided 0 0 l)))))
+    let low : c .before .gather .result .least ≤ mark = rw (g .0) (least-mark _) in
+    let next : c .before .gather .result .next ≤ mark = rw (g .1) (next-mark _) in
+    (s .pre .0, (words-in (a .w .now) (a .x) (a .s) (s .pre .0 .1) (s .pre .1), (omega arith, omega arith, omega arith, omega arith)))
 
 same-length : tie.Need-same-length
 same-length c = omega arith

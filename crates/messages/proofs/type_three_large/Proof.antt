@@ -1,8 +1,9 @@
 -- `messages::type_three_large` meets its contract: what is gathered from the folded quarter gives the box of the others of a class, and the message is stored over it. Assumes nothing.
 use mathlib.Core.Path.{_≡_, ap, _∙_}
 use mathlib.Core.Bool.{cond}
-use Prim.Native.Nat.{ℕ, _+_}
+use Prim.Native.Nat.{ℕ, _+_, _≤_}
 use native.Mathlib.Omega.{arith}
+use Rattle.model.specs.Soft.{mark}
 use Rattle.words.specs.Words.{word, write}
 use Rattle.classes.specs.Sums.{strided, least, next, parity}
 use Rattle.extrinsic.specs.Values.{isOdd, leaveOut}
@@ -54,12 +55,12 @@ spread-requires c κs =
     let h = scratch (c .before .before .before .before .before .before) in
     let g = even-is (c .before .before .before) in
     let o = odd-is (c .before) in
-    let l = partOf (a .w .now) (a .x) (a .s) in (
+    let low : c .before .before .before .gather-folded .result .least ≤ mark = rw (g .0) (least-mark _) in
+    let next : c .before .before .before .gather-folded .result .next ≤ mark = rw (g .1) (next-mark _) in
+    let odd-low : c .before .gather-folded2 .result .least ≤ mark = rw (o .0) (least-mark _) in
+    let odd-next : c .before .gather-folded2 .result .next ≤ mark = rw (o .1) (next-mark _) in (
       (s .pre .0 .0, omega (arith, folded-length h)),
-      (
-        words-kept h (words-in (a .w .now) (a .x) (a .s) (s .pre .0 .1) (s .pre .1 .0)),
-        (rw (g .0) (least-mark (strided 1 0 l)), rw (g .1) (next-mark (strided 1 0 l)), rw (o .0) (least-mark (strided 1 1 l)), rw (o .1) (next-mark (strided 1 1 l))),
-      ),
+      (words-kept h (words-in (a .w .now) (a .x) (a .s) (s .pre .0 .1) (s .pre .1 .0)), (omega arith, omega arith, omega arith, omega arith)),
     )
 
 same-length : tie.Need-same-length
