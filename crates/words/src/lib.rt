@@ -76,11 +76,15 @@ pub fn sub_words(a: i32, b: i32) -> i32
     a - b
 }
 
-// w[m + k] = value
+// w[m + k] = value. A single word, as a leaf's message is, needs no loop.
 pub fn fill(w: &mut [i32], m: usize, s: usize, value: i32)
     requires { ⌜ m + s ≤ length (now w) ⌝ }
     ensures { λ _. ⌜ now (w .exit) ≡ write (now (w .entry)) m s (λ k. value) ⌝ }
 {
+    if s == 1 {
+        w[m] = value;
+        return;
+    }
     let mut k = 0;
     while k < s {
         w[m + k] = value;
