@@ -134,11 +134,11 @@ read-off-requires c κs =
     let run = c .before .before .before .before .before .before .before .before .soft-values in
     readable mask plan (a .sweeps) llrs soft hard payload work (sym (c .before .before .before .before .before .before .before .before .before .before .before .if2 .left) ∙ short-is (c .before .before .before .before .before .before .before .before .before .before .before .before)) (passed (c .before .before .before .before .before .before .before .before .before .before .before .before .before .before)) (run .last .1 .1 .1 .1 .1 .1 .0) (run .ensures .0)
 
-cast-answer : tie.Need-cast-answer
-cast-answer c = let pass = passed (c .before .before .before .before .before .before .before .before .before .before .before .before .before .before .before .before .before .before .before) in record { fits = omega (arith, pass .few) }
+cast-cycles : tie.Need-cast-cycles
+cast-cycles c = let pass = passed (c .before .before .before .before .before .before .before .before .before .before .before .before .before .before .before .before .before .before .before) in record { fits = omega (arith, pass .few) }
 
-mul-answer : tie.Need-mul-answer
-mul-answer c =
+mul-cycles : tie.Need-mul-cycles
+mul-cycles c =
     let a = c .before .before .before .before .before .before .before .before .before .before .before .before .before .before .before .before .before .before .before .before .before .before .before .before .before .before .before .args in
     let pass = passed (c .before .before .before .before .before .before .before .before .before .before .before .before .before .before .before .before .before .before .before .before) in
     let small = cycles-small pass in
@@ -201,8 +201,8 @@ decode-spec =
     soft-values-requires
     fill-requires
     read-off-requires
-    cast-answer
-    mul-answer
+    cast-cycles
+    mul-cycles
     answer-requires-3
     same-length
     same-length-2
