@@ -9,7 +9,7 @@ use Rattle.model.specs.Kinds.{kindOf}
 use Rattle.model.specs.Kinds as kinds
 use Rattle.model.specs.Plans.{cycles, plannerPlan, levels, cutAt}
 use Rattle.model.specs.Refusals.{refusal, exponentTo, llrsInRange}
-use Rattle.reader.specs.Grammar.{firstOf, fields, allDigits, valueFrom, isNumber, value, allNumbers, readFields, readLine}
+use Rattle.fields.specs.Grammar.{firstOf, fields, allDigits, valueFrom, isNumber, value, allNumbers, readFields, readLine}
 use Rattle.reader.specs.Answers.{lineNumber}
 use Rattle.printer.specs.Text.{digitsIn, natText, intText, softText, bitsText, payloadText, spaced, lineText, okFields, okText}
 use Rattle.line.specs.Program.{replyText, answerText}

@@ -7,7 +7,7 @@ use borrow.Author.Tests.{eq-eqb, ne-eqb}
 use lib.IntN.{ℤ}
 use lib.ListN.{length, take, length-take}
 use Rattle.model.specs.Refusals.{accepted}
-use Rattle.reader.specs.Grammar.{Reading, readLine}
+use Rattle.fields.specs.Grammar.{Reading, readLine}
 use Rattle.reader.specs.Answers.{maskOf, sweepsOf, llrsOf, lineNumber, lineSize, lineSweeps, lineMask, lineLlrs}
 use Rattle.reader.specs.Steps.{Fit}
 use Rattle.reader.proofs.Accepted.{line-accepted, size-is, sweeps-are, mask-front, llrs-front}

@@ -7,7 +7,7 @@ use Rattle.model.specs.Soft.{finite}
 use Rattle.model.specs.Scan.{decodeScan}
 use Rattle.model.specs.Plans.{cycles, plannerPlan}
 use Rattle.model.specs.Refusals.{exponent, accepted}
-use Rattle.reader.specs.Grammar.{Reading, readLine}
+use Rattle.fields.specs.Grammar.{Reading, readLine}
 use Rattle.reader.specs.Answers.{maskOf, sweepsOf, llrsOf, lineNumber}
 use Rattle.printer.specs.Text.{okText, noText}
 

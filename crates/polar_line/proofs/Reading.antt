@@ -8,7 +8,7 @@ use lib.Dec.{eqb}
 use lib.ListN.{length, take, drop, length-append, length-take, length-drop}
 use lib.Seq.{take-at, length-take-le}
 use borrow.Rule.Slice.PartMut.{putMid}
-use Rattle.reader.specs.Grammar.{firstOf}
+use Rattle.fields.specs.Grammar.{firstOf}
 
 -- ---- a buffer after a read behind its first n bytes
 pub mid-kept : (n k : ℕ) (l g : List ℕ) → n ≤ length l → take n (putMid n k l g) ≡ take n l

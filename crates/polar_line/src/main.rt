@@ -4,7 +4,7 @@ use libc::STDOUT_FILENO;
 ghost use mathlib.Core.Path.{_≡_};
 ghost use Prim.Native.Nat.{_+_, _<_, _≤_};
 ghost use lib.ListN.{length, take};
-ghost use Rattle.reader.specs.Grammar.{firstOf, feed};
+ghost use Rattle.fields.specs.Grammar.{firstOf, feed};
 
 // One read, behind the first n bytes. It is made only where there is room and no line feed has come yet, so the program
 // never waits for more than the line.
@@ -29,7 +29,7 @@ fn read_input(buf: &mut [u8]) -> usize
             return n;
         }
         let e = n + more;
-        if reader::find(&buf[..e], n, b'\n') < e {
+        if fields::find(&buf[..e], n, b'\n') < e {
             return e;
         }
         n = e;

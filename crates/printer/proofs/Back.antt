@@ -14,8 +14,8 @@ use mir.Val.{SFits}
 use Rattle.model.specs.Lists.{same}
 use Rattle.model.specs.Soft.{Soft, finite, certain}
 use Rattle.model.specs.Scan.{Decoded}
-use Rattle.reader.specs.Grammar.{firstOf, lineOf, fields, onFirst, isDigit, allDigits, digit, valueFrom, decimal, hasMinus, unsigned, isNumber, value}
-use Rattle.reader.proofs.Fields.{and-both}
+use Rattle.fields.specs.Grammar.{firstOf, lineOf, fields, onFirst, isDigit, allDigits, digit, valueFrom, decimal, hasMinus, unsigned, isNumber, value}
+use Rattle.fields.proofs.Split.{and-both}
 use Rattle.printer.specs.Text.{ok, no, inf, digitsIn, natText, intText, softText, bitsText, payloadText, spaced, lineText, okFields, okText, noText}
 
 -- ---- numbers

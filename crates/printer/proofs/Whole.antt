@@ -11,7 +11,7 @@ use borrow.Author.Tests.{leb-true, leb-false}
 use Rattle.model.specs.Lists.{over}
 use Rattle.model.specs.Soft.{Soft, _at_, wordOf}
 use Rattle.model.specs.Bounds.{Under, limit}
-use Rattle.reader.proofs.Stores.{sets-over}
+use Rattle.fields.proofs.Stores.{sets-over}
 use Rattle.printer.specs.Put.{Put, Printed}
 use Rattle.words.specs.Words.{softOf}
 use Rattle.words.proofs.Laws.{soft-word}

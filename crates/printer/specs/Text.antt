@@ -6,7 +6,7 @@ use lib.Dec.{ltb, eqb}
 use lib.IntN.{ℤ, pos, negsuc}
 use Rattle.model.specs.Soft.{Soft, finite, certain}
 use Rattle.model.specs.Scan.{Decoded}
-use Rattle.reader.specs.Grammar.{feed, space, minus, digit0}
+use Rattle.fields.specs.Grammar.{feed, space, minus, digit0}
 
 -- `ok`, `no`, `inf`
 abbrev pub ok : List ℕ

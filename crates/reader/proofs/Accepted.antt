@@ -8,15 +8,21 @@ use lib.Dec.{T, eqb, leb}
 use lib.IntN.{ℤ}
 use lib.ListN.{length, take, drop}
 use lib.Seq.{take-at}
-use borrow.Author.Tests.{eq-eqb, eqb-true, leb-true}
+use borrow.Author.Tests.{eq-eqb, ne-eqb, eqb-true, leb-true}
 use Rattle.model.specs.Lists.{atMost, over}
 use Rattle.model.specs.Encoding.{maxMask}
-use Rattle.model.specs.Refusals.{exponent, maxSweeps, llrsInRange}
+use Rattle.model.specs.Refusals.{exponent, maxSweeps, accepted}
 use Rattle.model.proofs.Refusals.{passes, length-small}
-use Rattle.reader.specs.Grammar.{Reading, malformed, reading}
+use Rattle.fields.specs.Grammar.{Reading, malformed, reading}
 use Rattle.reader.specs.Answers.{maskOf, llrsOf, count, sweepsOf, lineNumber, lineSize, lineSweeps, lineMask, lineLlrs}
 use Rattle.reader.specs.Steps.{Fit}
-use Rattle.reader.proofs.Fields.{and-both}
+use Rattle.fields.proofs.Split.{and-both}
+
+pub accepted-no {ℓ} : {A : Type ℓ} (number : ℕ) (x y : A) → (number ≡ 0 → ⊥) → y ≡ accepted number x y
+accepted-no number x y e = sym (simp (ne-eqb number 0 e))
+
+pub accepted-yes {ℓ} : {A : Type ℓ} (number : ℕ) (x y : A) → number ≡ 0 → x ≡ accepted number x y
+accepted-yes number x y e = sym (simp (eq-eqb number 0 e))
 
 pub line-accepted : (line : Reading) → lineNumber line ≡ 0 → Fit (maskOf line) (sweepsOf line) (llrsOf line)
 unfolding lineNumber

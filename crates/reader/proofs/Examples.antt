@@ -7,7 +7,7 @@ use lib.IntN.{pos, negsuc}
 use lib.ListN.{replicate}
 use Rattle.model.specs.Lists.{atMost}
 use Rattle.model.specs.Refusals.{refusal, exponentTo, llrsInRange}
-use Rattle.reader.specs.Grammar.{firstOf, fields, allDigits, valueFrom, isNumber, value, allNumbers, malformed, reading, readFields, readLine}
+use Rattle.fields.specs.Grammar.{firstOf, fields, allDigits, valueFrom, isNumber, value, allNumbers, malformed, reading, readFields, readLine}
 use Rattle.reader.specs.Answers.{lineNumber}
 
 -- `11101000 1 3 -2 5 1 4 -6 2 -1`

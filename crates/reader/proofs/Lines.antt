@@ -1,32 +1,65 @@
--- The line as a whole: its first field, the sweeps and the LLRs. Assumes nothing.
+-- The line as a whole: its mask, the sweeps and the LLRs, and what it answers and leaves. Assumes nothing.
 use mathlib.Core.Path.{_≡_, refl, sym, ap, ap₂, _∙_}
 use mathlib.Core.Bool.{Bool, true, false, cond, _&&_}
 use mathlib.Core.List.{List, [], _∷_, map}
-use Prim.Native.Nat.{ℕ, _+_, _-_, _≤_, _<_, min, zero-le}
+use Prim.Native.Nat.{ℕ, _+_, _≤_, _<_, min, zero-le}
 use native.Mathlib.Omega.{arith}
-use lib.Dec.{leb, eqb}
+use lib.Dec.{leb}
 use lib.IntN.{ℤ}
 use lib.ListN.{length, take, drop, length-map}
-use lib.Seq.{length-take-le}
-use borrow.Author.Tests.{lt-ltb, le-ltb, le-leb, lt-leb, leb-true, leb-false, eqb-true, eqb-false}
+use lib.Seq.{sets, take-at, length-take-le}
+use borrow.Author.Tests.{lt-ltb, le-ltb, le-leb, lt-leb, leb-true, leb-false}
 use Rattle.model.specs.Lists.{atMost, over}
-use Rattle.model.specs.Refusals.{llrsInRange, accepted}
-use Rattle.reader.specs.declared.Parts.{Parts}
+use Rattle.model.specs.Refusals.{refusal, llrsInRange, accepted}
+use Rattle.fields.specs.Grammar.{firstOf, fields, isDigits, digit, isNumber, value, allNumbers, maxLine, Reading, malformed, reading, readFields, readLine}
+use Rattle.fields.specs.Steps.{fieldAt, nextAt, rest}
+use Rattle.fields.proofs.Bytes.{and-false}
+use Rattle.fields.proofs.Split.{rest-split, rest-zero, rest-none}
+use Rattle.fields.proofs.Stores.{sets-over}
 use Rattle.reader.specs.declared.Llrs.the-variants.{Numbers, Broken}
-use Rattle.reader.specs.Grammar.{firstOf, fields, isDigits, digit, isNumber, value, allNumbers, maxLine, Reading, malformed, reading, readFields, readLine}
-use Rattle.reader.specs.Answers.{maskOf, llrsOf, count, lineNumber, lineSize, lineSweeps, lineMask, lineLlrs}
-use Rattle.reader.specs.Steps.{rest, llrsRead, partsFrom, partsOf, partsNumber, partsSize, partsSweeps}
-use Rattle.reader.proofs.Bytes.{and-false}
-use Rattle.reader.proofs.Fields.{and-both, rest-split, rest-zero, rest-none}
-use Rattle.reader.proofs.Numbers.{parts-number, parts-size, parts-sweeps, accepted-no, accepted-yes}
-use Rattle.reader.proofs.Accepted.{line-accepted}
+use Rattle.reader.specs.Answers.{count, maskOf, llrsOf, lineNumber, lineSize, lineSweeps, lineMask, lineLlrs}
+use Rattle.reader.specs.Steps.{llrsRead, ReadLlrs, fieldsNumber, Answered, Fronts}
+use Rattle.reader.proofs.Accepted.{accepted-no, accepted-yes, line-accepted}
 
--- ---- the mask field ends at a
+-- ---- what reading fields as LLRs tells of them
+module _ (fs : List (List ℕ)) where
+  llrs-broken : Broken ≡ llrsRead fs → allNumbers fs ≡ false
+  unfolding llrsRead
+  llrs-broken = go (allNumbers fs)
+    where
+      go : (t : Bool) → Broken ≡ cond t (Numbers (length fs) (llrsInRange (map value fs))) Broken → t ≡ false
+      go true p = let z : _≡_ {A = ℕ} 0 1 = cc in absurd (omega arith)
+      go false p = refl
+
+  llrs-numbers : (k : ℕ) (ok : Bool) → Numbers k ok ≡ llrsRead fs → (allNumbers fs ≡ true) × (k ≡ length fs) × (ok ≡ llrsInRange (map value fs))
+  unfolding llrsRead
+  llrs-numbers k ok = go (allNumbers fs)
+    where
+      go : (t : Bool) → Numbers k ok ≡ cond t (Numbers (length fs) (llrsInRange (map value fs))) Broken
+          → (t ≡ true) × (k ≡ length fs) × (ok ≡ llrsInRange (map value fs))
+      go true p = (refl, cc, cc)
+      go false p = let z : _≡_ {A = ℕ} 0 1 = cc in absurd (omega arith)
+
+-- the digit of a byte is 0 or 1 exactly if the byte is at most `1`
+bits-test : (t : List ℕ) → atMost 49 t ≡ atMost 1 (map digit t)
+unfolding atMost
+bits-test [] = refl
+bits-test (b ∷ t) = rw (bits-test t, same b)
+  where
+    same : (b : ℕ) → leb b 49 ≡ leb (digit b) 1
+    same b = go (leb b 49) refl
+      where
+        go : (x : Bool) → leb b 49 ≡ x → x ≡ leb (digit b) 1
+        go true q = sym (le-leb (digit b) 1 (omega (arith, leb-true b 49 q)))
+        go false q = sym (lt-leb (digit b) 1 (omega (arith, leb-false b 49 q)))
+
+-- ---- a line whose mask field ends at a
 module _ (s : List ℕ) (a : ℕ) (e : a ≡ 0 + firstOf 32 (drop 0 s)) where
-  pub fields-first : fields s ≡ take a s ∷ rest s (a + 1)
+  fields-first : fields s ≡ take a s ∷ rest s (a + 1)
   fields-first =
-      let z : a - 0 ≡ a = omega arith in
-      sym (rest-zero s) ∙ rest-split s 0 a zero-le e ∙ ap (λ (k : ℕ). take k s ∷ rest s (a + 1)) z
+      let k : firstOf 32 (drop 0 s) ≡ a = omega arith in
+      let n : nextAt s 0 ≡ a + 1 = omega arith in
+      sym (rest-zero s) ∙ rest-split s 0 zero-le ∙ ap₂ (λ (k n : ℕ). take k s ∷ rest s n) k n
 
   pub one-field : a ≡ length s → readFields (fields s) ≡ malformed
   unfolding readFields
@@ -40,95 +73,62 @@ module _ (s : List ℕ) (a : ℕ) (e : a ≡ 0 + firstOf 32 (drop 0 s)) where
       bad [] = refl
       bad (w ∷ ls) = rw d
 
--- ---- a line of a mask field, a sweeps field and others
-module _ (s m w : List ℕ) (ls : List (List ℕ)) (p : fields s ≡ m ∷ (w ∷ ls)) where
-  pub bad-sweeps : isNumber w ≡ false → readFields (fields s) ≡ malformed
-  unfolding readFields allNumbers
-  bad-sweeps n = rw (p, n, and-false (isDigits m))
+  -- with a sweeps field behind it
+  module _ (i : a < length s) where
+    fields-two : fields s ≡ take a s ∷ (fieldAt s (a + 1) ∷ rest s (nextAt s (a + 1)))
+    fields-two = fields-first ∙ ap (λ (fs : List (List ℕ)). take a s ∷ fs) (rest-split s (a + 1) (omega arith))
 
-  -- the digit of a byte is 0 or 1 exactly if the byte is at most `1`
-  bits-test : (t : List ℕ) → atMost 49 t ≡ atMost 1 (map digit t)
-  unfolding atMost
-  bits-test [] = refl
-  bits-test (b ∷ t) = rw (bits-test t, same b)
-    where
-      same : (b : ℕ) → leb b 49 ≡ leb (digit b) 1
-      same b = go (leb b 49) refl
-        where
-          go : (x : Bool) → leb b 49 ≡ x → x ≡ leb (digit b) 1
-          go true q = sym (le-leb (digit b) 1 (omega (arith, leb-true b 49 q)))
-          go false q = sym (lt-leb (digit b) 1 (omega (arith, leb-false b 49 q)))
+    pub bad-sweeps : isNumber (fieldAt s (a + 1)) ≡ false → readFields (fields s) ≡ malformed
+    unfolding readFields allNumbers
+    bad-sweeps n = rw (fields-two, n, and-false (isDigits (take a s)))
 
-  pub parts-line : (a : ℕ) → a ≡ length m → isDigits m ≡ true → isNumber w ≡ true
-      → partsFrom a (atMost 49 m) (count (value w)) (llrsRead ls) ≡ partsOf (readFields (fields s))
-  unfolding readFields allNumbers llrsRead
-  parts-line a l d n = rw (p, d, n) (go (allNumbers ls))
-    where
-      go : (t : Bool)
-          → partsFrom a (atMost 49 m) (count (value w)) (cond t (Numbers (length ls) (llrsInRange (map value ls))) Broken)
-          ≡ partsOf (cond t (reading (map digit m) (value w) (map value ls)) malformed)
-      go true = rw (bits-test m, l, length-map m digit, length-map ls value)
-      go false = refl
+    pub bad-llrs : Broken ≡ llrsRead (rest s (nextAt s (a + 1))) → readFields (fields s) ≡ malformed
+    unfolding readFields allNumbers
+    bad-llrs b =
+        rw (fields-two, llrs-broken (rest s (nextAt s (a + 1))) b, and-false (isNumber (fieldAt s (a + 1))), and-false (isDigits (take a s)))
 
-  -- its parts, if it is accepted
-  pub record Whole : Type 0 where
-    pub mask : maskOf (readFields (fields s)) ≡ map digit m
-    pub llrs : llrsOf (readFields (fields s)) ≡ map value ls
-    pub numbers : allNumbers ls ≡ true
+    -- and all is well-formed: its number by whether the digits are bits, the sweeps, the number of LLRs and whether these are in range
+    module _ (d : isDigits (take a s) ≡ true) (w : isNumber (fieldAt s (a + 1)) ≡ true)
+        (l₀ l : List ℤ) (k : ℕ) (ok : Bool) (r : ReadLlrs (rest s (nextAt s (a + 1))) l₀ l (Numbers k ok)) (room : 1024 ≤ length l₀)
+        (bits : Bool) (eb : bits ≡ atMost 49 (take a s)) (sweeps : ℕ) (es : sweeps ≡ count (value (fieldAt s (a + 1))))
+        (number : ℕ) (en : number ≡ fieldsNumber a bits sweeps k ok) where
+      abbrev ls : List (List ℕ)
+      ls = rest s (nextAt s (a + 1))
 
-  pub whole : lineNumber (readFields (fields s)) ≡ 0 → Whole
-  unfolding readFields allNumbers lineNumber
-  whole z = go (isDigits m && (isNumber w && allNumbers ls)) refl (rw p at z)
-    where
-      go : (t : Bool) → (isDigits m && (isNumber w && allNumbers ls)) ≡ t
-          → lineNumber (cond t (reading (map digit m) (value w) (map value ls)) malformed) ≡ 0 → Whole
-      go true q y =
-          let f = and-both (isNumber w) (allNumbers ls) (and-both (isDigits m) (isNumber w && allNumbers ls) q .1) in
-          record { mask = rw (p, q); llrs = rw (p, q); numbers = f .1 }
-      go false q y = absurd (omega arith)
+      read : readFields (fields s) ≡ reading (map digit (take a s)) (value (fieldAt s (a + 1))) (map value ls)
+      unfolding readFields allNumbers
+      read = rw (fields-two, d, w, llrs-numbers ls k ok (r .is) .0)
 
--- ---- what the buffers take of an accepted line, whose mask field ends at a and whose sweeps field ends at e
-module _ (s : List ℕ) (z : lineNumber (readFields (fields s)) ≡ 0) (a : ℕ) (p : a ≡ 0 + firstOf 32 (drop 0 s)) (l : a ≤ length s) where
-  pub inside : a < length s
-  unfolding lineNumber
-  inside = go (eqb a (length s)) refl
-    where
-      go : (t : Bool) → eqb a (length s) ≡ t → a < length s
-      go true q =
-          let y : lineNumber malformed ≡ 0 = ap lineNumber (sym (one-field s a p (eqb-true a (length s) q))) ∙ z in
-          absurd (omega arith)
-      go false q = let n : a ≡ length s → ⊥ = eqb-false a (length s) q in omega arith
+      digits : length (map digit (take a s)) ≡ a
+      digits = length-map (take a s) digit ∙ length-take-le a s (omega arith)
 
-  module _ (e : ℕ) (q : e ≡ a + 1 + firstOf 32 (drop (a + 1) s)) where
-    sweeps : List ℕ
-    sweeps = take (e - (a + 1)) (drop (a + 1) s)
+      number-is : number ≡ lineNumber (readFields (fields s))
+      unfolding fieldsNumber lineNumber
+      number-is =
+          let n = llrs-numbers ls k ok (r .is) in
+          rw (en, read, digits, eb, es, bits-test (take a s), n .1, n .2, length-map ls value)
 
-    all : fields s ≡ take a s ∷ (sweeps ∷ rest s (e + 1))
-    unfolding sweeps
-    all = fields-first s a p ∙ ap (λ (fs : List (List ℕ)). take a s ∷ fs) (rest-split s (a + 1) e (omega (arith, inside)) q)
+      fronts : number ≡ 0 → Fronts s l a
+      unfolding over
+      fronts z =
+          let n = llrs-numbers ls k ok (r .is) in
+          let f = rw read at (line-accepted (readFields (fields s)) (sym number-is ∙ z)) in
+          let same : length (map value ls) ≡ a = f .same ∙ digits in
+          let stored = r .stored (n .0) (f .range) ∙ sets-over (map value ls) l₀ (omega (arith, f .small)) in
+          record {
+            small = omega (arith, f .small, digits);
+            within = omega arith;
+            mask = rw read;
+            values = rw read (ap (take a) stored ∙ take-at (map value ls) (drop (length (map value ls)) l₀) a same);
+          }
 
-    pub record Stored : Type 0 where
-      pub mask : maskOf (readFields (fields s)) ≡ map digit (take a s)
-      pub llrs : llrsOf (readFields (fields s)) ≡ map value (rest s (e + 1))
-      pub numbers : allNumbers (rest s (e + 1)) ≡ true
-      pub range : llrsInRange (map value (rest s (e + 1))) ≡ true
-      pub small : a ≤ 1024
-      pub same : length (rest s (e + 1)) ≡ a
-
-    pub stored : Stored
-    stored =
-        let w = whole s (take a s) sweeps (rest s (e + 1)) all z in
-        let g = line-accepted (readFields (fields s)) z in
-        let n : length (maskOf (readFields (fields s))) ≡ a = ap length (w .mask) ∙ length-map (take a s) digit ∙ length-take-le a s l in
-        let k : length (llrsOf (readFields (fields s))) ≡ length (rest s (e + 1)) = ap length (w .llrs) ∙ length-map (rest s (e + 1)) value in
-        record {
-          mask = w .mask;
-          llrs = w .llrs;
-          numbers = w .numbers;
-          range = ap llrsInRange (sym (w .llrs)) ∙ g .range;
-          small = omega (arith, n, g .small);
-          same = sym k ∙ g .same ∙ n;
-        }
+      pub parts-answer : {n m t : ℕ} → (n ≡ number) × (m ≡ accepted number a 0) × (t ≡ accepted number sweeps 0)
+          → Answered (readFields (fields s)) n m t × (n ≡ 0 → Fronts s l m)
+      unfolding lineSize lineSweeps
+      parts-answer x = (
+        record { number-is = x .0 ∙ number-is; size-is = x .1 ∙ (rw (number-is, read, digits)); sweeps-are = x .2 ∙ (rw (number-is, read, es)) },
+        λ z. rw (x .1 ∙ sym (accepted-yes number a 0 (sym (x .0) ∙ z))) (fronts (sym (x .0) ∙ z)),
+      )
 
 -- ---- the line feed
 module _ (s : List ℕ) (n : ℕ) (e : n ≡ 0 + firstOf 10 (drop 0 s)) where
@@ -143,20 +143,7 @@ module _ (s : List ℕ) (n : ℕ) (e : n ≡ 0 + firstOf 10 (drop 0 s)) where
       let m : firstOf 10 s ≡ n = omega arith in
       rw (lt-ltb (firstOf 10 s) (min (length s) maxLine) g) (ap (λ (k : ℕ). readFields (fields (take k s))) m)
 
--- ---- what is answered, by the parts
-module _ (line : Reading) (p : Parts) (e : p ≡ partsOf line) where
-  pub number-answer : partsNumber p ≡ lineNumber line
-  number-answer = ap partsNumber e ∙ parts-number line
-
-  pub size-answer : accepted (partsNumber p) (partsSize p) 0 ≡ lineSize line
-  unfolding lineSize
-  size-answer = ap₂ (λ (n k : ℕ). accepted n k 0) number-answer (ap partsSize e ∙ parts-size line)
-
-  pub sweeps-answer : accepted (partsNumber p) (partsSweeps p) 0 ≡ lineSweeps line
-  unfolding lineSweeps
-  sweeps-answer = ap₂ (λ (n k : ℕ). accepted n k 0) number-answer (ap partsSweeps e ∙ parts-sweeps line)
-
--- what a refused line leaves, and an accepted one
+-- ---- what a refused line leaves, and an accepted one
 module _ (line : Reading) (mask : List ℕ) (llrs : List ℤ) where
   pub left : (lineNumber line ≡ 0 → ⊥) → (mask ≡ lineMask line mask) × (llrs ≡ lineLlrs line llrs)
   unfolding lineMask lineLlrs
@@ -166,14 +153,18 @@ module _ (line : Reading) (mask : List ℕ) (llrs : List ℤ) where
   unfolding lineMask lineLlrs
   written e = (accepted-yes (lineNumber line) (over (maskOf line) mask) mask e, accepted-yes (lineNumber line) (over (llrsOf line) llrs) llrs e)
 
--- what a malformed line answers and leaves
-pub record Refused13 (line : Reading) (mask : List ℕ) (llrs : List ℤ) : Type 0 where
-  pub number : 13 ≡ lineNumber line
-  pub size : 0 ≡ lineSize line
-  pub sweeps : 0 ≡ lineSweeps line
-  pub same-mask : mask ≡ lineMask line mask
-  pub same-llrs : llrs ≡ lineLlrs line llrs
+-- ---- a malformed line has number 13
+module _ {number size sweeps : ℕ} (r : (number ≡ 13) × (size ≡ 0) × (sweeps ≡ 0)) where
+  malformed-answer : (line : Reading) → line ≡ malformed → Answered line number size sweeps
+  unfolding lineNumber lineSize lineSweeps
+  malformed-answer line e = record { number-is = r .0 ∙ (rw e); size-is = r .1 ∙ (rw e); sweeps-are = r .2 ∙ (rw e) }
 
-pub refused-13 : (line : Reading) (mask : List ℕ) (llrs : List ℤ) → line ≡ malformed → Refused13 line mask llrs
-unfolding lineNumber lineSize lineSweeps lineMask lineLlrs
-refused-13 line mask llrs e = record { number = rw e; size = rw e; sweeps = rw e; same-mask = rw e; same-llrs = rw e }
+  pub refused-parts : (s : List ℕ) (l : List ℤ) → readFields (fields s) ≡ malformed
+      → Answered (readFields (fields s)) number size sweeps × (number ≡ 0 → Fronts s l size)
+  refused-parts s l e = (malformed-answer (readFields (fields s)) e, λ z. absurd (omega (arith, r .0)))
+
+  pub refused-line : (line : Reading) (mask : List ℕ) (llrs : List ℤ) → line ≡ malformed
+      → ((number ≡ lineNumber line) × (size ≡ lineSize line) × (sweeps ≡ lineSweeps line)) × ((mask ≡ lineMask line mask) × (llrs ≡ lineLlrs line llrs))
+  refused-line line mask llrs e =
+      let a = malformed-answer line e in
+      ((a .number-is, a .size-is, a .sweeps-are), left line mask llrs (λ z. omega (arith, r .0, a .number-is)))

@@ -5,7 +5,7 @@ use lib.IntN.{ℤ, pos, negsuc}
 use lib.ListN.{length}
 use Rattle.model.specs.Lists.{over}
 use Rattle.model.specs.Refusals.{refusal, row-1, row-2, row-3, row-4, row-7, accepted}
-use Rattle.reader.specs.Grammar.{Reading, malformed, reading}
+use Rattle.fields.specs.Grammar.{Reading, malformed, reading}
 
 -- the parts of a line; a malformed one has none
 abbrev pub maskOf : Reading → List ℕ

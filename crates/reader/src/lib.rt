@@ -1,177 +1,31 @@
 // Reads the program's line: the mask's digits, the sweeps, the LLRs.
+use fields::Number;
+use fields::digit_of;
+use fields::digits_only;
+use fields::field_at;
+use fields::find;
+use inputs::at_most;
 use inputs::both;
+use inputs::exponent_of;
+use inputs::tested;
 ghost use mathlib.Core.Path.{_≡_};
-ghost use mathlib.Core.Bool.{true};
+ghost use mathlib.Core.Bool.{true, _&&_};
 ghost use mathlib.Core.List.{map};
-ghost use Prim.Native.Nat.{_+_, _-_, _<_, _≤_, max};
-ghost use lib.ListN.{length, drop};
+ghost use Prim.Native.Nat.{_+_, _≤_};
+ghost use lib.Dec.{leb};
+ghost use lib.ListN.{length, set};
 ghost use Rattle.model.specs.Lists.{over};
-ghost use Rattle.model.specs.Soft.{signed};
-ghost use Rattle.model.specs.Refusals.{llrsInRange, accepted};
-ghost use Rattle.reader.specs.Grammar.{firstOf, fields, isDigit, isDigits, digit, largest, value, allNumbers, readLine, readFields};
-ghost use Rattle.reader.specs.Answers.{count, maskOf, llrsOf, lineNumber, lineSize, lineSweeps, lineMask, lineLlrs};
-ghost use Rattle.reader.specs.Steps.{sizeOf, signedSize, numberOf, isValue, valueOr, isLlr, rest, llrsRead, partsFrom, partsOf, fieldsNumber, partsNumber, partsSize, partsSweeps};
+ghost use Rattle.model.specs.Refusals.{maxSweeps, accepted};
+ghost use Rattle.fields.specs.Grammar.{fields, digit, readLine, readFields};
+ghost use Rattle.fields.specs.Steps.{rest};
+ghost use Rattle.reader.specs.Answers.{count, lineNumber, lineSize, lineSweeps, lineMask, lineLlrs};
+ghost use Rattle.reader.specs.Steps.{isLlr, ReadLlrs, fieldsNumber, Answered, Fronts};
 
 // Sweeps run from 1 to this.
 const MAX_SWEEPS: u32 = 16;
 
 // A line has at most this many bytes with its line feed.
 const MAX_LINE: usize = 16384;
-
-// Where the first b stands, from a position on; the end if there is none, and a position beyond the end itself.
-pub fn find(s: &[u8], from: usize, b: u8) -> usize
-    ensures { λ r. ⌜ (r ≡ from + firstOf b (drop from (now (s .entry)))) × (r ≤ max from (length (now (s .entry)))) ⌝ }
-{
-    let mut i = from;
-    while i < s.len() {
-        if s[i] == b {
-            return i;
-        }
-        i += 1;
-    }
-    i
-}
-
-fn is_digit(b: u8) -> bool
-    ensures { λ r. ⌜ r ≡ isDigit b ⌝ }
-{
-    if b < b'0' {
-        return false;
-    }
-    b <= b'9'
-}
-
-// Whether a field is one digit or more.
-fn digits_only(s: &[u8]) -> bool
-    ensures { λ r. ⌜ r ≡ isDigits (now (s .entry)) ⌝ }
-{
-    if s.len() == 0 {
-        return false;
-    }
-    let mut i = 0;
-    while i < s.len() {
-        if !is_digit(s[i]) {
-            return false;
-        }
-        i += 1;
-    }
-    true
-}
-
-// The value of a digit; of a byte below the digits 0.
-fn digit_of(b: u8) -> u8
-    ensures { λ r. ⌜ r ≡ digit b ⌝ }
-{
-    if b < b'0' { 0 } else { b - b'0' }
-}
-
-fn wide(b: u8) -> u64
-    ensures { λ r. ⌜ (r ≡ b) × (r < 256) ⌝ }
-{
-    b as u64
-}
-
-// Digits that may be the size of a number of 32 bits.
-enum Size {
-    Of(u64),
-    Unfit,
-}
-
-fn read_size(s: &[u8]) -> Size
-    ensures { λ r. ⌜ r ≡ sizeOf (now (s .entry)) ⌝ }
-{
-    if s.len() == 0 {
-        return Size::Unfit;
-    }
-    let mut v: u64 = 0;
-    let mut i = 0;
-    while i < s.len() {
-        let b = s[i];
-        if !is_digit(b) {
-            return Size::Unfit;
-        }
-        v = 10 * v + wide(digit_of(b));
-        if 2147483648 < v {
-            return Size::Unfit;
-        }
-        i += 1;
-    }
-    Size::Of(v)
-}
-
-// The largest size of a number of 32 bits, with a minus and without.
-fn largest_size(neg: bool) -> u64
-    ensures { λ r. ⌜ r ≡ largest neg ⌝ }
-{
-    if neg { 2147483648 } else { 2147483647 }
-}
-
-fn with_sign(neg: bool, v: u64) -> i32
-    requires { ⌜ v ≤ largest neg ⌝ }
-    ensures { λ r. ⌜ r ≡ signed neg v ⌝ }
-{
-    if neg {
-        (0 - (v as i64)) as i32
-    } else {
-        v as i32
-    }
-}
-
-// A number of 32 bits.
-enum Number {
-    Value(i32),
-    Wrong,
-}
-
-fn signed_number(neg: bool, size: Size) -> Number
-    ensures { λ r. ⌜ r ≡ signedSize neg size ⌝ }
-{
-    match size {
-        Size::Of(v) => {
-            if v <= largest_size(neg) {
-                Number::Value(with_sign(neg, v))
-            } else {
-                Number::Wrong
-            }
-        }
-        Size::Unfit => Number::Wrong,
-    }
-}
-
-// An optional minus and one digit or more.
-fn read_number(s: &[u8]) -> Number
-    ensures { λ r. ⌜ r ≡ numberOf (now (s .entry)) ⌝ }
-{
-    if s.len() == 0 {
-        return Number::Wrong;
-    }
-    if s[0] == b'-' {
-        let size = read_size(&s[1..]);
-        return signed_number(true, size);
-    }
-    let size = read_size(s);
-    signed_number(false, size)
-}
-
-// Whether a field was a number.
-fn is_value(n: Number) -> bool
-    ensures { λ r. ⌜ r ≡ isValue n ⌝ }
-{
-    match n {
-        Number::Value(_) => true,
-        Number::Wrong => false,
-    }
-}
-
-// The number; 0 if there is none.
-fn value_or(n: Number) -> i32
-    ensures { λ r. ⌜ r ≡ valueOr n ⌝ }
-{
-    match n {
-        Number::Value(z) => z,
-        Number::Wrong => 0,
-    }
-}
 
 // Whether a number is within ±32767.
 fn is_llr(z: i32) -> bool
@@ -183,29 +37,43 @@ fn is_llr(z: i32) -> bool
     z <= 32767
 }
 
+// An LLR at k, if it is in range and there is room; answers whether it is in range.
+fn store_llr(z: i32, llrs: &mut [i16], k: usize) -> bool
+    ensures { λ r. ⌜ r ≡ isLlr z ⌝ }
+    ensures { λ _. ⌜ (isLlr z ≡ true → now (llrs .exit) ≡ set (now (llrs .entry)) k z) ⌝ }
+{
+    if !is_llr(z) {
+        return false;
+    }
+    if k < llrs.len() {
+        llrs[k] = z as i16;
+    }
+    true
+}
+
 // The LLRs of a line: how many, and whether all are within ±32767.
 enum Llrs {
     Numbers { count: usize, in_range: bool },
     Broken,
 }
 
-// The fields from a position on as LLRs.
-fn read_llrs(line: &[u8], from: usize) -> Llrs
+// The fields from a position on as LLRs, to the front of an array as far as there is room.
+fn read_llrs(line: &[u8], from: usize, llrs: &mut [i16]) -> Llrs
     requires { ⌜ from ≤ length (now line) + 1 ⌝ }
-    ensures { λ r. ⌜ r ≡ llrsRead (rest (now (line .entry)) from) ⌝ }
+    ensures { λ r. ⌜ ReadLlrs (rest (now (line .entry)) from) (now (llrs .entry)) (now (llrs .exit)) r ⌝ }
 {
     let mut count: usize = 0;
     let mut in_range = true;
     let mut at = from;
     while at <= line.len() {
-        let e = find(line, at, b' ');
-        let n = read_number(&line[at..e]);
-        if !is_value(n) {
+        let field = field_at(line, at);
+        let number = field.number;
+        let Number::Value(z) = number else {
             return Llrs::Broken;
-        }
-        in_range = both(in_range, is_llr(value_or(n)));
+        };
+        in_range = both(in_range, store_llr(z, llrs, count));
         count += 1;
-        at = e + 1;
+        at = field.next;
     }
     Llrs::Numbers { count, in_range }
 }
@@ -217,123 +85,25 @@ fn sweep_count(sweeps: i32) -> u32
     if sweeps < 0 { 0 } else { sweeps as u32 }
 }
 
-// The parts of a line by which it is accepted or refused: the number of mask digits, whether they are bits, the sweeps,
-// the number of LLRs, whether those are in range.
-enum Parts {
-    Malformed,
-    Fields {
-        digits: usize,
-        bits: bool,
-        sweeps: u32,
-        llrs: usize,
-        in_range: bool,
-    },
-}
-
-fn parts_from(digits: usize, bits: bool, sweeps: u32, llrs: Llrs) -> Parts
-    ensures { λ r. ⌜ r ≡ partsFrom digits bits sweeps llrs ⌝ }
+fn sweeps_fit(sweeps: u32) -> bool
+    ensures { λ r. ⌜ r ≡ (leb 1 sweeps && leb sweeps maxSweeps) ⌝ }
 {
-    match llrs {
-        Llrs::Numbers { count, in_range } => Parts::Fields {
-            digits,
-            bits,
-            sweeps,
-            llrs: count,
-            in_range,
-        },
-        Llrs::Broken => Parts::Malformed,
+    if 1 <= sweeps {
+        sweeps <= MAX_SWEEPS
+    } else {
+        false
     }
 }
 
-// The parts of a line without its line feed.
-fn read_parts(line: &[u8]) -> Parts
-    ensures { λ r. ⌜ r ≡ partsOf (readFields (fields (now (line .entry)))) ⌝ }
-{
-    let a = find(line, 0, b' ');
-    if a == line.len() {
-        return Parts::Malformed;
-    }
-    if !digits_only(&line[..a]) {
-        return Parts::Malformed;
-    }
-    let bits = inputs::at_most(&line[..a], b'1');
-    let b = a + 1;
-    let e = find(line, b, b' ');
-    let n = read_number(&line[b..e]);
-    if !is_value(n) {
-        return Parts::Malformed;
-    }
-    let sweeps = sweep_count(value_or(n));
-    let f = e + 1;
-    let llrs = read_llrs(line, f);
-    parts_from(a, bits, sweeps, llrs)
-}
-
-// The number of a line by its parts.
+// The number of a line by its parts: the number of mask digits, whether they are bits, the sweeps, the number of LLRs,
+// whether those are in range.
 fn fields_number(digits: usize, bits: bool, sweeps: u32, llrs: usize, in_range: bool) -> u32
     ensures { λ r. ⌜ r ≡ fieldsNumber digits bits sweeps llrs in_range ⌝ }
 {
-    if inputs::exponent_of(digits) == 0 {
-        return 1;
-    }
-    if !bits {
-        return 2;
-    }
-    if llrs != digits {
-        return 3;
-    }
-    if sweeps < 1 {
-        return 4;
-    }
-    if MAX_SWEEPS < sweeps {
-        return 4;
-    }
-    if in_range { 0 } else { 7 }
-}
-
-fn parts_number(parts: Parts) -> u32
-    ensures { λ r. ⌜ r ≡ partsNumber parts ⌝ }
-{
-    match parts {
-        Parts::Malformed => 13,
-        Parts::Fields {
-            digits,
-            bits,
-            sweeps,
-            llrs,
-            in_range,
-        } => fields_number(digits, bits, sweeps, llrs, in_range),
-    }
-}
-
-fn parts_size(parts: Parts) -> usize
-    ensures { λ r. ⌜ r ≡ partsSize parts ⌝ }
-{
-    match parts {
-        Parts::Malformed => 0,
-        Parts::Fields {
-            digits,
-            bits: _,
-            sweeps: _,
-            llrs: _,
-            in_range: _,
-        } => digits,
-    }
-}
-
-fn parts_sweeps(parts: Parts) -> u32
-    ensures { λ r. ⌜ r ≡ partsSweeps parts ⌝ }
-{
-    match parts {
-        Parts::Malformed => 0,
-        Parts::Fields {
-            digits: _,
-            bits: _,
-            sweeps,
-            llrs: _,
-            in_range: _,
-        } => sweeps,
-    }
+    let t = exponent_of(digits);
+    let fourth = tested(sweeps_fit(sweeps), tested(in_range, 0, 7), 4);
+    let second = tested(bits, tested(llrs == digits, fourth, 3), 2);
+    tested(t != 0, second, 1)
 }
 
 // What a line is: its number, 0 if it is accepted, and then N and the sweeps, which are 0 in a refused line.
@@ -353,19 +123,45 @@ fn refused(number: u32) -> Line
     }
 }
 
-// What is answered of a line by its parts.
-fn answer(parts: Parts) -> Line
-    ensures { λ r. ⌜ (r .number ≡ partsNumber parts) × (r .size ≡ accepted (partsNumber parts) (partsSize parts) 0) × (r .sweeps ≡ accepted (partsNumber parts) (partsSweeps parts) 0) ⌝ }
+// What is answered of a line with this number, N and sweeps.
+fn answer(number: u32, size: usize, sweeps: u32) -> Line
+    ensures { λ r. ⌜ (r .number ≡ number) × (r .size ≡ accepted number size 0) × (r .sweeps ≡ accepted number sweeps 0) ⌝ }
 {
-    let number = parts_number(parts);
     if number != 0 {
         return refused(number);
     }
     Line {
-        number: 0,
-        size: parts_size(parts),
-        sweeps: parts_sweeps(parts),
+        number,
+        size,
+        sweeps,
     }
+}
+
+// A line without its line feed, whose LLRs go to the front of an array of the reader's own.
+fn read_parts(line: &[u8], llrs: &mut [i16]) -> Line
+    requires { ⌜ 1024 ≤ length (now llrs) ⌝ }
+    ensures { λ r. ⌜ Answered (readFields (fields (now (line .entry)))) (r .number) (r .size) (r .sweeps) ⌝ }
+    ensures { λ r. ⌜ (r .number ≡ 0 → Fronts (now (line .entry)) (now (llrs .exit)) (r .size)) ⌝ }
+{
+    let a = find(line, 0, b' ');
+    if a == line.len() {
+        return refused(13);
+    }
+    if !digits_only(&line[..a]) {
+        return refused(13);
+    }
+    let bits = at_most(&line[..a], b'1');
+    let field = field_at(line, a + 1);
+    let number = field.number;
+    let Number::Value(z) = number else {
+        return refused(13);
+    };
+    let sweeps = sweep_count(z);
+    let read = read_llrs(line, field.next, llrs);
+    let Llrs::Numbers { count, in_range } = read else {
+        return refused(13);
+    };
+    answer(fields_number(a, bits, sweeps, count, in_range), a, sweeps)
 }
 
 // The digits of the mask field to the front of a buffer.
@@ -380,56 +176,33 @@ fn store_digits(field: &[u8], mask: &mut [u8])
     }
 }
 
-// An LLR as a word of 16 bits.
-fn llr_word(z: i32) -> i16
-    requires { ⌜ isLlr z ≡ true ⌝ }
-    ensures { λ r. ⌜ r ≡ z ⌝ }
+// LLRs to the front of a buffer.
+fn store_llrs(from: &[i16], llrs: &mut [i16])
+    requires { ⌜ length (now from) ≤ length (now llrs) ⌝ }
+    ensures { λ _. ⌜ now (llrs .exit) ≡ over (now (from .entry)) (now (llrs .entry)) ⌝ }
 {
-    z as i16
-}
-
-// The LLRs from a position of a line on to the front of a buffer.
-fn store_llrs(line: &[u8], from: usize, llrs: &mut [i16])
-    requires { ⌜ from ≤ length (now line) + 1 ⌝ }
-    requires { ⌜ (allNumbers (rest (now line) from) ≡ true) × (llrsInRange (map value (rest (now line) from)) ≡ true) × (length (rest (now line) from) ≤ length (now llrs)) ⌝ }
-    ensures { λ _. ⌜ now (llrs .exit) ≡ over (map value (rest (now (line .entry)) from)) (now (llrs .entry)) ⌝ }
-{
-    let mut k: usize = 0;
-    let mut at = from;
-    while at <= line.len() {
-        let e = find(line, at, b' ');
-        let n = read_number(&line[at..e]);
-        llrs[k] = llr_word(value_or(n));
-        k += 1;
-        at = e + 1;
+    let mut i: usize = 0;
+    while i < from.len() {
+        llrs[i] = from[i];
+        i += 1;
     }
-}
-
-// The mask and the LLRs of a line that is accepted.
-fn store(line: &[u8], mask: &mut [u8], llrs: &mut [i16])
-    requires { ⌜ lineNumber (readFields (fields (now line))) ≡ 0 ⌝ }
-    requires { ⌜ (1024 ≤ length (now mask)) × (1024 ≤ length (now llrs)) ⌝ }
-    ensures { λ _. ⌜ now (mask .exit) ≡ over (maskOf (readFields (fields (now (line .entry))))) (now (mask .entry)) ⌝ }
-    ensures { λ _. ⌜ now (llrs .exit) ≡ over (llrsOf (readFields (fields (now (line .entry))))) (now (llrs .entry)) ⌝ }
-{
-    let a = find(line, 0, b' ');
-    store_digits(&line[..a], mask);
-    let e = find(line, a + 1, b' ');
-    store_llrs(line, e + 1, llrs);
 }
 
 // A line without its line feed.
 fn read_fields(line: &[u8], mask: &mut [u8], llrs: &mut [i16]) -> Line
     requires { ⌜ (1024 ≤ length (now mask)) × (1024 ≤ length (now llrs)) ⌝ }
-    ensures { λ r. ⌜ (r .number ≡ lineNumber (readFields (fields (now (line .entry))))) × (r .size ≡ lineSize (readFields (fields (now (line .entry))))) × (r .sweeps ≡ lineSweeps (readFields (fields (now (line .entry))))) ⌝ }
+    ensures { λ r. ⌜ Answered (readFields (fields (now (line .entry)))) (r .number) (r .size) (r .sweeps) ⌝ }
     ensures { λ _. ⌜ now (mask .exit) ≡ lineMask (readFields (fields (now (line .entry)))) (now (mask .entry)) ⌝ }
     ensures { λ _. ⌜ now (llrs .exit) ≡ lineLlrs (readFields (fields (now (line .entry)))) (now (llrs .entry)) ⌝ }
 {
-    let r = answer(read_parts(line));
+    let mut read = [0i16; 1024];
+    let r = read_parts(line, &mut read);
     if r.number != 0 {
         return r;
     }
-    store(line, mask, llrs);
+    let n = r.size;
+    store_digits(&line[..n], mask);
+    store_llrs(&read[..n], llrs);
     r
 }
 

@@ -5,7 +5,7 @@ use Prim.Native.Nat.{ℕ, _+_, _-_, _≤_}
 use native.Mathlib.Omega.{arith}
 use lib.ListN.{length, take}
 use lib.Seq.{length-take-le}
-use Rattle.reader.specs.Grammar.{firstOf, feed}
+use Rattle.fields.specs.Grammar.{firstOf, feed}
 use Rattle.polar_line.proofs.Reading.{first-after, take-take}
 use borrow.Author.Needs.{needs}
 use Rattle.polar_line.proofs.read_input.Statement.{statement}

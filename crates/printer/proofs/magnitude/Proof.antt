@@ -3,7 +3,7 @@ use mathlib.Core.Path.{ap}
 use mir.Facts.{toZ-ofZ}
 use lib.IntN.{natAbs}
 use Rattle.printer.proofs.Signs.{wide, negated-fits, negated-cast, negated-back}
-use Rattle.reader.proofs.Signs.{plain-cast}
+use Rattle.fields.proofs.Signs.{plain-cast}
 use Rattle.printer.proofs.magnitude.Statement.{statement}
 use Rattle.printer.proofs.magnitude.Tie as tie
 

@@ -4,9 +4,9 @@ use native.Mathlib.Omega.{arith}
 use Prim.Native.Nat.{_<_, _≤_, min}
 use lib.ListN.{length, take}
 use lib.Seq.{length-take-le}
-use Rattle.reader.specs.Grammar.{Reading, readLine, readFields, fields, maxLine}
+use Rattle.fields.specs.Grammar.{Reading, readLine, readFields, fields, maxLine}
 use Rattle.reader.specs.Answers.{lineNumber, lineSize, lineSweeps, lineMask, lineLlrs}
-use Rattle.reader.proofs.Lines.{not-ended, is-ended, refused-13}
+use Rattle.reader.proofs.Lines.{not-ended, is-ended, refused-line}
 use borrow.Author.Needs.{needs}
 use Rattle.reader.proofs.read_line.Statement.{statement}
 use Rattle.reader.proofs.read_line.Tie as tie
@@ -21,10 +21,8 @@ returns : tie.Need-returns
 returns c =
     let f = c .before .before in
     let s = f .before .before .args in
-    let r = refused-13 (readLine (s .bytes .now)) (s .mask .now) (s .llrs .now)
-    (not-ended (s .bytes .now) (f .find .result) (f .find .ensures .0) (omega (arith, c .before .if1 .taken))) in
-    let x = c .refused .ensures in
-    ((x .0 ∙ r .number, x .1 ∙ r .size, x .2 ∙ r .sweeps), (r .same-mask, r .same-llrs))
+    refused-line (c .refused .ensures) (readLine (s .bytes .now)) (s .mask .now) (s .llrs .now)
+    (not-ended (s .bytes .now) (f .find .result) (f .find .ensures .0) (omega (arith, c .before .if1 .taken)))
 
 refused-requires-2 : tie.Need-refused-requires-2
 refused-requires-2 c κs = search needs
@@ -33,10 +31,8 @@ returns-2 : tie.Need-returns-2
 returns-2 c =
     let f = c .before .before .before in
     let s = f .before .before .args in
-    let r = refused-13 (readLine (s .bytes .now)) (s .mask .now) (s .llrs .now)
-    (not-ended (s .bytes .now) (f .find .result) (f .find .ensures .0) (omega (arith, c .before .if2 .taken))) in
-    let x = c .refused2 .ensures in
-    ((x .0 ∙ r .number, x .1 ∙ r .size, x .2 ∙ r .sweeps), (r .same-mask, r .same-llrs))
+    refused-line (c .refused2 .ensures) (readLine (s .bytes .now)) (s .mask .now) (s .llrs .now)
+    (not-ended (s .bytes .now) (f .find .result) (f .find .ensures .0) (omega (arith, c .before .if2 .taken)))
 
 slice-aggregate-read-fields : tie.Need-slice-aggregate-read-fields
 slice-aggregate-read-fields c =
@@ -56,7 +52,7 @@ returns-3 c =
     let i : n < min (length (s .bytes .now)) maxLine = omega (arith, c .before .before .before .before .if2 .left, f .find .ensures .1) in
     let e : readLine (s .bytes .now) ≡ readFields (fields (take n (s .bytes .now))) = is-ended (s .bytes .now) n (f .find .ensures .0) i in
     let r = c .read-fields .ensures in (
-      (r .0 .0 ∙ ap lineNumber (sym e), r .0 .1 ∙ ap lineSize (sym e), r .0 .2 ∙ ap lineSweeps (sym e)),
+      (r .0 .number-is ∙ ap lineNumber (sym e), r .0 .size-is ∙ ap lineSize (sym e), r .0 .sweeps-are ∙ ap lineSweeps (sym e)),
       (
         r .1 .0 ∙ ap (λ (line : Reading). lineMask line (s .mask .now)) (sym e),
         r .1 .1 ∙ ap (λ (line : Reading). lineLlrs line (s .llrs .now)) (sym e),

@@ -1,66 +1,51 @@
--- `reader::read_llrs` meets its contract. The loop's invariant: what was read and the fields that are left give the answer. Assumes nothing.
+-- `reader::read_llrs` meets its contract. The loop's invariant: what was read and the fields that are left give the answer and the array. Assumes nothing.
 use mathlib.Core.Path.{_≡_, refl, sym, ap, _∙_}
 use mathlib.Core.Bool.{true, false, _&&_, Bool}
-use mathlib.Core.List.{_∷_}
 use Prim.Native.Nat.{_+_, _-_, _≤_}
 use native.Mathlib.Omega.{arith}
-use borrow.Author.Tests.{not-true, not-false}
-use lib.ListN.{length, take, drop}
+use lib.ListN.{length}
 use mir.Syntax.{w32}
-use mir.Val.{toZ, ofZ}
-use Rattle.reader.specs.Grammar.{isNumber, value}
-use Rattle.reader.specs.Steps.{isLlr, isValue, valueOr, rest}
-use Rattle.reader.proofs.Bytes.{is-value, value-is}
-use Rattle.reader.proofs.Fields.{llrsFrom, llrs-start, llrs-end, llrs-bad, llrs-on, rest-split, rest-none}
+use mir.Facts.{toZ-ofZ}
+use mir.Val.{SFits, toZ, ofZ}
+use Rattle.fields.specs.Steps.{fieldAt, nextAt}
+use Rattle.fields.proofs.Bytes.{says-value, says-none}
+use Rattle.reader.specs.Steps.{isLlr}
+use Rattle.reader.proofs.Loop.{Going, going-start, going-on, going-bad, going-end}
 use borrow.Author.Needs.{needs}
 use Rattle.reader.proofs.read_llrs.Statement.{statement}
 use Rattle.reader.proofs.read_llrs.Tie as tie
 
 abbrev Inv-loop : tie.InvT-loop
-Inv-loop line from count₀ in-range₀ at₀ count in-range at =
-    (count ≤ at) × (at ≤ length line + 1) × (llrsFrom count in-range (rest line at) ≡ llrsFrom 0 true (rest line from))
+Inv-loop line from llrs₀ count₀ in-range₀ at₀ llrs count in-range at = Going line from llrs₀ llrs count in-range at
 
 abbrev μ-loop : tie.MeasureT-loop
-μ-loop line from count₀ in-range₀ at₀ count in-range at = length line + 1 - at
+μ-loop line from llrs₀ count₀ in-range₀ at₀ llrs count in-range at = length line + 1 - at
 
 loop-holds : tie.Need-loop-holds Inv-loop μ-loop
-loop-holds c = (omega arith, omega arith, refl)
+loop-holds c = going-start _ _ _ (c .before .pre)
 
-find-requires : tie.Need-find-requires Inv-loop μ-loop
-find-requires c κs = search needs
+field-at-requires : tie.Need-field-at-requires Inv-loop μ-loop
+field-at-requires c κs = search needs
 
-sub-read-number : tie.Need-sub-read-number Inv-loop μ-loop
-sub-read-number c = search needs
+enum-known-number : tie.Need-enum-known-number Inv-loop μ-loop
+enum-known-number c = search needs
 
-part-read-number-start : tie.Need-part-read-number-start Inv-loop μ-loop
-part-read-number-start c = search needs
+enum-told : tie.Need-enum-told Inv-loop μ-loop
+enum-told c = search needs
 
-part-read-number-end : tie.Need-part-read-number-end Inv-loop μ-loop
-part-read-number-end c = search needs
-
-read-number-requires : tie.Need-read-number-requires Inv-loop μ-loop
-read-number-requires c κs = search needs
-
-is-value-requires : tie.Need-is-value-requires Inv-loop μ-loop
-is-value-requires c κs = search needs
+same-length : tie.Need-same-length Inv-loop μ-loop
+same-length c = c .before .before .before .before .loop .inv .kept
 
 returns : tie.Need-returns Inv-loop μ-loop
 returns c =
-    let a = c .before .before .before .before in
+    let a = c .before .before in
     let l = a .before .before in
     let s = l .before .before .args .line .now in
-    let e = a .find .result in
-    let f = take (e - l .loop .at) (drop (l .loop .at) s) in
-    let p : rest s (l .loop .at) ≡ f ∷ rest s (e + 1) = rest-split s (l .loop .at) e (a .before .loop-test .taken) (a .find .ensures .0) in
-    let q : isNumber f ≡ false = sym (is-value f) ∙ sym (c .before .is-value .ensures ∙ ap isValue (c .before .before .read-number .ensures))
-    ∙ not-true (c .before .is-value .result) (c .if1 .taken) in
-    llrs-bad (l .loop .count) (l .loop .in-range) (rest s (l .loop .at)) f (rest s (e + 1)) p q ∙ l .loop .inv .2 ∙ llrs-start (rest s (l .before .before .args .from))
+    going-bad (l .loop .inv) (a .before .loop-test .taken)
+    (says-none (fieldAt s (l .loop .at)) (a .field-at .result .number) (a .field-at .ensures .0) (c .enum-told .given .1))
 
-value-or-requires : tie.Need-value-or-requires Inv-loop μ-loop
-value-or-requires c κs = search needs
-
-is-llr-requires : tie.Need-is-llr-requires Inv-loop μ-loop
-is-llr-requires c κs = search needs
+store-llr-requires : tie.Need-store-llr-requires Inv-loop μ-loop
+store-llr-requires c κs = search needs
 
 both-requires : tie.Need-both-requires Inv-loop μ-loop
 both-requires c κs = search needs
@@ -68,37 +53,29 @@ both-requires c κs = search needs
 add-count : tie.Need-add-count Inv-loop μ-loop
 add-count c = search needs
 
-add-at : tie.Need-add-at Inv-loop μ-loop
-add-at c = search needs
-
 loop-less : tie.Need-loop-less Inv-loop μ-loop
-loop-less c = omega (arith, c .before .before .before .before .before .before .before .find .ensures .0)
+loop-less c =
+    let a = c .before .before .before .before .before .before .before in
+    omega (arith, a .field-at .ensures .1, a .before .loop-test .taken)
 
 loop-again : tie.Need-loop-again Inv-loop μ-loop
 loop-again c =
-    let n = c .before .before .before .before in
-    let a = n .before .before .before in
+    let a = c .before .before .before .before .before .before .before in
     let l = a .before .before in
     let s = l .before .before .args .line .now in
-    let e = a .find .result in
-    let f = take (e - l .loop .at) (drop (l .loop .at) s) in
-    let p : rest s (l .loop .at) ≡ f ∷ rest s (e + 1) = rest-split s (l .loop .at) e (a .before .loop-test .taken) (a .find .ensures .0) in
-    let q : isNumber f ≡ true = sym (is-value f) ∙ sym (n .is-value .ensures ∙ ap isValue (n .before .read-number .ensures))
-    ∙ not-false (n .is-value .result) (c .before .before .before .if1 .left) in
-    let back : toZ w32 (ofZ w32 (c .before .before .value-or .result)) ≡ c .before .before .value-or .result = search needs in
-    let v : toZ w32 (ofZ w32 (c .before .before .value-or .result)) ≡ value f = back ∙ c .before .before .value-or .ensures ∙ ap valueOr (n .before .read-number .ensures) ∙ value-is f q in
-    let b : c .both .result ≡ (l .loop .in-range && isLlr (value f)) = c .both .ensures ∙ ap (λ (t : Bool). l .loop .in-range && t) (c .before .is-llr .ensures ∙ ap isLlr v) in (
-      omega (arith, a .find .ensures .0),
-      omega (arith, a .find .ensures .1),
-      llrs-on (l .loop .count) (l .loop .in-range) (rest s (l .loop .at)) f (rest s (e + 1)) p (c .both .result) q b ∙ l .loop .inv .2,
-    )
+    let n = c .before .before .before .before .before .number .given in
+    let v = says-value (fieldAt s (l .loop .at)) (a .field-at .result .number) (a .field-at .ensures .0) (n .0 .0) (n .1) in
+    let z : SFits w32 (n .0 .0) = record { sfits = c .before .before .before .before .known-told .given .0 .1 } in
+    let r = c .before .before .store-llr in
+    going-on (l .loop .inv) (a .before .loop-test .taken) (v .0) (toZ w32 (ofZ w32 (n .0 .0))) (toZ-ofZ z ∙ v .1) (c .both .result)
+    (c .both .ensures ∙ ap (λ (t : Bool). l .loop .in-range && t) (r .ensures .0)) (r .last .1 .0) (r .kept .1 .0) (r .ensures .1)
+    (a .field-at .result .next) (a .field-at .ensures .1)
+
+same-length-2 : tie.Need-same-length-2 Inv-loop μ-loop
+same-length-2 c = c .before .loop .inv .kept
 
 returns-2 : tie.Need-returns-2 Inv-loop μ-loop
-returns-2 c =
-    let l = c .before in
-    let s = l .before .before .args .line .now in
-    llrs-end (l .loop .count) (l .loop .in-range) (rest s (l .loop .at)) (rest-none s (l .loop .at) (c .loop-test .left)) ∙ l .loop .inv .2
-    ∙ llrs-start (rest s (l .before .before .args .from))
+returns-2 c = going-end (c .before .loop .inv) (c .loop-test .left)
 
 pub read-llrs-spec : {M : Type 1} → statement M
 read-llrs-spec =
@@ -107,18 +84,15 @@ read-llrs-spec =
     Inv-loop
     μ-loop
     loop-holds
-    find-requires
-    sub-read-number
-    part-read-number-start
-    part-read-number-end
-    read-number-requires
-    is-value-requires
+    field-at-requires
+    enum-known-number
+    enum-told
+    same-length
     returns
-    value-or-requires
-    is-llr-requires
+    store-llr-requires
     both-requires
     add-count
-    add-at
     loop-less
     loop-again
+    same-length-2
     returns-2)

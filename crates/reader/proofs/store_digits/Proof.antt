@@ -1,25 +1,23 @@
--- `reader::store_digits` meets its contract. The loop's invariant: what is left, stored from i on, gives what the whole gives. Assumes nothing.
-use mathlib.Core.Path.{_≡_, refl, _∙_}
+-- `reader::store_digits` meets its contract. The loop's invariant: the digits are stored as far as i. Assumes nothing.
+use mathlib.Core.Path.{sym, _∙_}
 use mathlib.Core.List.{map}
-use Prim.Native.Nat.{_-_, _≤_}
+use Prim.Native.Nat.{_-_}
 use native.Mathlib.Omega.{arith}
-use lib.ListN.{length, drop, length-set, length-map}
-use lib.Seq.{sets}
-use Rattle.reader.specs.Grammar.{digit}
-use Rattle.reader.proofs.Stores.{sets-over, copy-on, copy-end}
+use lib.ListN.{length, length-map, List·getD-map}
+use Rattle.fields.specs.Grammar.{digit}
+use Rattle.fields.proofs.Stores.{Storing, storing-start, storing-on, storing-end}
 use borrow.Author.Needs.{needs}
 use Rattle.reader.proofs.store_digits.Statement.{statement}
 use Rattle.reader.proofs.store_digits.Tie as tie
 
 abbrev Inv-loop : tie.InvT-loop
-Inv-loop field mask₀ i₀ mask i =
-    (i ≤ length field) × (length mask ≡ length mask₀) × (sets mask i (map digit (drop i field)) ≡ sets mask₀ 0 (map digit field))
+Inv-loop field mask₀ i₀ mask i = Storing (map digit field) mask₀ mask i
 
 abbrev μ-loop : tie.MeasureT-loop
 μ-loop field mask₀ i₀ mask i = length field - i
 
 loop-holds : tie.Need-loop-holds Inv-loop μ-loop
-loop-holds c = (omega arith, refl, refl)
+loop-holds c = storing-start _ _
 
 shared-slice-read-digit-of : tie.Need-shared-slice-read-digit-of Inv-loop μ-loop
 shared-slice-read-digit-of c = search needs
@@ -39,22 +37,16 @@ loop-less c = search needs
 loop-again : tie.Need-loop-again Inv-loop μ-loop
 loop-again c =
     let l = c .before .before .before in
-    let s = l .before .before .before .args .field .now in (
-      omega arith,
-      length-set (l .loop .mask) (l .loop .i) (c .digit-of .result) ∙ l .loop .inv .1,
-      copy-on digit s (l .loop .mask) (l .loop .i) (c .digit-of .result) (c .before .before .loop-test .taken) (c .digit-of .ensures) ∙ l .loop .inv .2,
-    )
+    let s = l .before .before .before .args .field .now in
+    storing-on (l .loop .inv) 0 (c .digit-of .result) (omega (arith, length-map s digit)) (c .digit-of .ensures ∙ sym (List·getD-map digit s (l .loop .i) 0))
 
 same-length : tie.Need-same-length Inv-loop μ-loop
-same-length c = c .before .loop .inv .1
+same-length c = c .before .loop .inv .kept
 
 returns : tie.Need-returns Inv-loop μ-loop
 returns c =
-    let l = c .before in
-    let a = l .before .before .before in
-    let s = a .args .field .now in
-    copy-end digit s (l .loop .mask) (l .loop .i) (c .loop-test .left) ∙ l .loop .inv .2
-    ∙ sets-over (map digit s) (a .args .mask .now) (omega (arith, a .pre, length-map s digit))
+    let s = c .before .before .before .before .args .field .now in
+    storing-end (c .before .loop .inv) (omega (arith, length-map s digit)) (omega (arith, length-map s digit))
 
 pub store-digits-spec : {M : Type 1} → statement M
 store-digits-spec =

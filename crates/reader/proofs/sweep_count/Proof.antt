@@ -1,6 +1,7 @@
 -- `reader::sweep_count` meets its contract, by the sign of the sweeps. Assumes nothing.
 use mir.Facts.{toZ-ofZ}
-use Rattle.reader.proofs.Signs.{plain-cast, count-negative, count-plain}
+use Rattle.fields.proofs.Signs.{plain-cast}
+use Rattle.reader.proofs.Signs.{count-negative, count-plain}
 use Rattle.reader.proofs.sweep_count.Statement.{statement}
 use Rattle.reader.proofs.sweep_count.Tie as tie
 
