@@ -25,6 +25,7 @@ pub record Sized (n from to : ℕ) : Type 0 where
   pub from-room : n ≤ from
   pub to-room : n ≤ to
 
+-- what reading off requires: the lengths of the lists, room for the results, and sums that are words
 pub record Readable (mask : List ℕ) (llrs soft : List ℤ) (n hard payload : ℕ) : Type 0 where
   pub length-allowed : exponent n ≡ 0 → ⊥
   pub few : n ≤ 1024

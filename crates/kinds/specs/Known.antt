@@ -1,4 +1,4 @@
--- What is known of a node's message whatever the node is handed. Assumes nothing.
+-- Nodes whose message does not depend on what they are handed. Assumes nothing.
 use mathlib.Core.Path.{_≡_}
 use mathlib.Core.Bool.{Bool, _&&_}
 use mathlib.Core.List.{List}

@@ -148,6 +148,7 @@ pub fn fixed_message(plan: &[u8], mask: &[u8], q: usize, b: usize, s: usize) -> 
     }
 }
 
+// Whether a node's message is known whatever the node is handed.
 pub fn is_fixed(m: Fixed) -> bool
     ensures { λ r. ⌜ r ≡ (m .certain || m .zero) ⌝ }
 {

@@ -46,10 +46,15 @@ Sound (suc t) mask T =
     × Sound t (take (2 ^ t) mask) (left T)
     × Sound t (drop (2 ^ t) mask) (right T)
 
+-- before the first sweep every larger node has zeros
+start-zeros : (t : ℕ) (mask : List ℕ) → message (start (suc t) mask) ≡ flat (2 ^ suc t) softZero
+unfolding start
+start-zeros t mask = refl
+
 pub sound-start : (t : ℕ) (mask : List ℕ) → Sound t mask (start t mask)
 unfolding start
 sound-start zero mask = refl
-sound-start (suc t) mask = (λ _. refl, sound-start t (take (2 ^ t) mask), sound-start t (drop (2 ^ t) mask))
+sound-start (suc t) mask = (λ _. start-zeros t mask, sound-start t (take (2 ^ t) mask), sound-start t (drop (2 ^ t) mask))
 
 zero-l : (t : ℕ) {mask : List ℕ} → mask ≡ replicate (2 ^ suc t) 0 → take (2 ^ t) mask ≡ replicate (2 ^ t) 0
 zero-l t e = half-l t (replicate (2 ^ t) 0) (replicate (2 ^ t) 0) (length-replicate (2 ^ t) 0) (e ∙ replicate-halves t 0)

@@ -1,12 +1,11 @@
--- Nodes and their bytes in a plan; what the recursions of the code give at a node. Assumes nothing.
+-- Nodes and their bytes in a plan, and what the check finds at a node. Assumes nothing.
 use Prim.Native.Nat.{ℕ, zero, suc, _+_, _*_, _^_, _≤_}
 use mathlib.Core.Path.{_≡_}
 use mathlib.Core.Bool.{Bool, cond, _&&_}
-use mathlib.Core.Option.{Option, none, some}
 use mathlib.Core.List.{List, [], _∷_}
-use lib.ListN.{take, drop, set, getD, length}
+use lib.ListN.{take, drop, length}
 use Rattle.model.specs.Lists.{bit}
-use Rattle.model.specs.Kinds.{Kind, order, row, isSome, kindOf}
+use Rattle.model.specs.Kinds.{isSome, kindOf}
 use Rattle.model.specs.Plans.{isCut, cycles, edgeCycles}
 
 -- node p of stage t and the nodes below it have their bytes in a plan of l bytes

@@ -29,7 +29,7 @@ overlaid plan (suc t) p S T =
 abbrev pub begun : Bool → List ℕ → ℕ → ℕ → List ℕ → Tree → Tree
 begun first plan t p mask T = cond first (overlaid plan t p (start t mask) T) T
 
--- the part of the mask of that node
+-- the part of the mask of the node of stage t whose first position is b
 abbrev pub part : List ℕ → ℕ → ℕ → List ℕ
 part mask b t = take (2 ^ t) (drop b mask)
 

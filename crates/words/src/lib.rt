@@ -36,6 +36,8 @@ pub fn size_word(a: i32) -> u32
     abs_word(a) as u32
 }
 
+// box of two words. The smaller of the two and the negated larger are the two candidates, and box is the larger of these; the mark is larger than every
+// finite size, so box(a, ∞) = a needs no test.
 pub fn box_words(a: i32, b: i32) -> i32
     requires { ⌜ Word a ⌝ }
     requires { ⌜ Word b ⌝ }
@@ -53,6 +55,7 @@ pub fn pick_word(b: bool, x: i32, y: i32) -> i32
     if b { x } else { y }
 }
 
+// The sum of a finite word and any word: the mark stays the mark.
 pub fn add_words(a: i32, b: i32) -> i32
     requires { ⌜ Added a b ⌝ }
     ensures { λ r. ⌜ r ≡ addWord a b ⌝ }
