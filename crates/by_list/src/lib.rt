@@ -76,7 +76,7 @@ fn by_list_fours(w: &mut [i32], m: usize, x: usize, l: usize, c: usize, h: usize
     }
 }
 
-// The same message, where the right child's incoming list w[c + k] = box(w[x + k], w[l + k]) + w[x + h + k] is still at c: less w[x + h + k], its
+// What `combine::node_message` stores, where the right child's incoming list w[c + k] = box(w[x + k], w[l + k]) + w[x + h + k] is still at c: less w[x + h + k], its
 // words are the boxes of the second half.
 pub fn message_by_list(w: &mut [i32], m: usize, x: usize, l: usize, c: usize, h: usize)
     requires { ⌜ (l + (h + h) ≤ m) × (m + (h + h) ≤ x) × (x + (h + h) ≤ c) × (c + h ≤ length (now w)) ⌝ }

@@ -50,7 +50,7 @@ pub fn message_left_certain(w: &mut [i32], m: usize, x: usize, l: usize, h: usiz
     }
 }
 
-// The same message, where the right child's is 0 everywhere: nothing is right.
+// The same message, where the right child's is 0 everywhere: a sum with it is the other word.
 pub fn message_right_zero(w: &mut [i32], m: usize, x: usize, l: usize, h: usize)
     requires { ⌜ (l + (h + h) ≤ m) × (m + (h + h) ≤ x) × (x + (h + h) ≤ length (now w)) ⌝ }
     requires { ⌜ Words (now w) x h × Words (now w) (x + h) h × Words (now w) l h × Holds (now w) (l + h) h (λ k. pos 0) ⌝ }
