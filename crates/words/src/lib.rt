@@ -21,7 +21,7 @@ pub fn max_word(a: i32, b: i32) -> i32
     if a < b { b } else { a }
 }
 
-// The size of a word, as a word and as an unsigned number.
+// The size of a word.
 pub fn abs_word(a: i32) -> i32
     requires { ⌜ Word a ⌝ }
     ensures { λ r. ⌜ r ≡ pos (natAbs a) ⌝ }
@@ -29,6 +29,7 @@ pub fn abs_word(a: i32) -> i32
     if a < 0 { -a } else { a }
 }
 
+// The size of a word as an unsigned number.
 pub fn size_word(a: i32) -> u32
     requires { ⌜ Word a ⌝ }
     ensures { λ r. ⌜ r ≡ natAbs a ⌝ }

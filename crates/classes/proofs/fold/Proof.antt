@@ -1,5 +1,6 @@
 -- `classes::fold` meets its contract. The loop's invariant: the first k values of both runs are stored. Assumes nothing.
-use mathlib.Core.Path.{_≡_, refl, ap, _∙_}
+use mathlib.Core.Path.{_≡_, refl, ap, ap₂, _∙_}
+use mathlib.Core.Bool.{Bool}
 use mathlib.Core.List.{List}
 use Prim.Native.Nat.{ℕ, _+_, _-_, _*_, _≤_, _<_}
 use native.Mathlib.Nat.{le-antisymm}
@@ -12,7 +13,7 @@ use mir.Syntax.{w32}
 use Rattle.model.specs.Soft.{negative}
 use Rattle.words.specs.Words.{Word, word, write}
 use Rattle.classes.specs.Sums.{least, next, parity}
-use Rattle.classes.specs.Folds.{fourList, keepSign, lowAt, highAt}
+use Rattle.classes.specs.Folds.{fourList, column, keepSign, lowAt, highAt}
 use Rattle.words.proofs.Signed.{back}
 use Rattle.words.proofs.Store.{store-none, store-both}
 use Rattle.classes.proofs.Columns.{list-at}
@@ -100,33 +101,44 @@ module _ (c : tie.After-d Inv-loop μ-loop) where
   abbrev turn : ℕ
   turn = loop-at .loop .k
 
-  a-is : toZ w32 (ofZ w32 (word (loop-at .loop .w) (loop-at .before .args .x + turn))) ≡ word list turn
-  a-is = back (c .before .before .before .a .given) ∙ list-is c (loop-at .before .args .x + turn) turn refl
+  -- what is read at j
+  abbrev at-place : ℕ → ℤ
+  at-place j = toZ w32 (ofZ w32 (word (loop-at .loop .w) j))
 
-  b-is : toZ w32 (ofZ w32 (word (loop-at .loop .w) (loop-at .before .args .x + width + turn))) ≡ word list (width + turn)
-  b-is = back (c .before .before .b .given) ∙ list-is c (loop-at .before .args .x + width + turn) (width + turn) (omega arith)
+  abbrev from : ℕ
+  from = loop-at .before .args .x
 
-  c-is : toZ w32 (ofZ w32 (word (loop-at .loop .w) (loop-at .before .args .x + width + width + turn))) ≡ word list (2 * width + turn)
-  c-is = back (c .before .c .given) ∙ list-is c (loop-at .before .args .x + width + width + turn) (2 * width + turn) (omega arith)
+  a-is : at-place (from + turn) ≡ word list turn
+  a-is = back (c .before .before .before .a .given) ∙ list-is c (from + turn) turn refl
 
-  d-is : toZ w32 (ofZ w32 (word (loop-at .loop .w) (loop-at .before .args .x + width + width + width + turn))) ≡ word list (3 * width + turn)
-  d-is = back (c .d .given) ∙ list-is c (loop-at .before .args .x + width + width + width + turn) (3 * width + turn) (omega arith)
+  b-is : at-place (from + width + turn) ≡ word list (width + turn)
+  b-is = back (c .before .before .b .given) ∙ list-is c (from + width + turn) (width + turn) (omega arith)
+
+  c-is : at-place (from + width + width + turn) ≡ word list (2 * width + turn)
+  c-is = back (c .before .c .given) ∙ list-is c (from + width + width + turn) (2 * width + turn) (omega arith)
+
+  d-is : at-place (from + width + width + width + turn) ≡ word list (3 * width + turn)
+  d-is = back (c .d .given) ∙ list-is c (from + width + width + width + turn) (3 * width + turn) (omega arith)
+
+  column-is : fourList (at-place (from + turn)) (at-place (from + width + turn)) (at-place (from + width + width + turn)) (at-place (from + width + width + width + turn)) ≡ column list width turn
+  column-is = λ i. fourList (a-is i) (b-is i) (c-is i) (d-is i)
 
   list-word : (i : ℕ) → i < 4 * width → Word (word list i)
-  list-word i h = rw (getD-drop (loop-at .before .args .x) (loop-at .before .args .w .now) i (pos 0)) (loop-at .before .pre .1 i h)
+  list-word i h = rw (getD-drop from (loop-at .before .args .w .now) i (pos 0)) (loop-at .before .pre .1 i h)
+
+  four-words : Word (at-place (from + turn)) × Word (at-place (from + width + turn)) × Word (at-place (from + width + width + turn)) × Word (at-place (from + width + width + width + turn))
+  four-words =
+      let lt = c .before .before .before .before .loop-test .taken in
+      (rw a-is (list-word _ (omega arith)), rw b-is (list-word _ (omega arith)), rw c-is (list-word _ (omega arith)), rw d-is (list-word _ (omega arith)))
 
 least-of-requires : tie.Need-least-of-requires Inv-loop μ-loop
-least-of-requires c κs =
-    let lt = c .before .before .before .before .loop-test .taken in
-    (rw (a-is c) (list-word c _ (omega arith)), rw (b-is c) (list-word c _ (omega arith)), rw (c-is c) (list-word c _ (omega arith)), rw (d-is c) (list-word c _ (omega arith)))
+least-of-requires c κs = four-words c
 
 parity-of-requires : tie.Need-parity-of-requires Inv-loop μ-loop
 parity-of-requires c κs = omega arith
 
 next-of-requires : tie.Need-next-of-requires Inv-loop μ-loop
-next-of-requires c κs =
-    let lt = (c .before .before) .before .before .before .before .loop-test .taken in
-    (rw (a-is (c .before .before)) (list-word (c .before .before) _ (omega arith)), rw (b-is (c .before .before)) (list-word (c .before .before) _ (omega arith)), rw (c-is (c .before .before)) (list-word (c .before .before) _ (omega arith)), rw (d-is (c .before .before)) (list-word (c .before .before) _ (omega arith)))
+next-of-requires c κs = four-words (c .before .before)
 
 keep-sign-requires : tie.Need-keep-sign-requires Inv-loop μ-loop
 keep-sign-requires c κs = ap negative (back (c .next-of .ok) ∙ c .next-of .ensures)
@@ -158,15 +170,15 @@ loop-less c = omega arith
 loop-again : tie.Need-loop-again Inv-loop μ-loop
 loop-again c =
     let at-d = c .before .before .before .before in
-    let b = c .before .before .before .before .before .before .before .before .before in
+    let b = at-d .before .before .before .before .before in
     let a = b .before .args in
     let l = drop (a .x) (a .w .now) in (
       omega arith,
-      store-both (pos 0) (a .w .now) (b .loop .w) (a .m) (a .q) (b .loop .k) _ _ (lowAt l (a .q)) (highAt l (a .q)) (c .before .before .before .before .before .before .before .before .loop-test .taken) (b .loop .inv .1)
-          (back (c .before .before .before .least-of .ok) ∙ c .before .before .before .least-of .ensures ∙ (λ i. pos (least (fourList (a-is at-d i) (b-is at-d i) (c-is at-d i) (d-is at-d i)))))
+      store-both (pos 0) (a .w .now) (b .loop .w) (a .m) (a .q) (b .loop .k) _ _ (lowAt l (a .q)) (highAt l (a .q)) (at-d .before .before .before .before .loop-test .taken) (b .loop .inv .1)
+          (back (c .before .before .before .least-of .ok) ∙ c .before .before .before .least-of .ensures ∙ ap (λ (v : List ℤ). pos (least v)) (column-is at-d))
           (back (c .keep-sign .ok) ∙ c .keep-sign .ensures
-          ∙ (λ i. keepSign (c .before .before .parity-of .ensures i) (natAbs ((back (c .before .next-of .ok) ∙ c .before .next-of .ensures) i)))
-          ∙ (λ i. keepSign (parity (fourList (a-is at-d i) (b-is at-d i) (c-is at-d i) (d-is at-d i))) (next (fourList (a-is at-d i) (b-is at-d i) (c-is at-d i) (d-is at-d i))))),
+          ∙ ap₂ (λ (neg : Bool) (z : ℤ). keepSign neg (natAbs z)) (c .before .before .parity-of .ensures) (back (c .before .next-of .ok) ∙ c .before .next-of .ensures)
+          ∙ ap (λ (v : List ℤ). keepSign (parity v) (next v)) (column-is at-d)),
       simp length-set (b .loop .inv .2),
     )
 
