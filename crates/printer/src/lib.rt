@@ -5,7 +5,7 @@ ghost use Prim.Native.Nat.{_+_, _*_, _<_, _≤_};
 ghost use lib.IntN.{natAbs};
 ghost use lib.ListN.{length};
 ghost use Rattle.words.specs.Words.{softOf};
-ghost use Rattle.printer.specs.Text.{inf, natText, intText, softText, bitText, bitsText, payloadText, spaced, okText, noText, decoded};
+ghost use Rattle.printer.specs.Text.{natText, intText, softText, bitText, bitsText, payloadText, spaced, okText, noText, decoded};
 ghost use Rattle.printer.specs.Put.{Put, Printed};
 
 // One byte, if there is room. Each function answers where its text ends.
@@ -17,6 +17,15 @@ fn put_byte(b: u8, out: &mut [u8], at: usize) -> usize
         return at + 1;
     }
     at
+}
+
+// Three bytes, as far as there is room.
+fn put_three(a: u8, b: u8, c: u8, out: &mut [u8], at: usize) -> usize
+    ensures { λ r. ⌜ Put (a ∷ b ∷ c ∷ []) (now (out .entry)) at (now (out .exit)) r ⌝ }
+{
+    let p = put_byte(a, out, at);
+    let q = put_byte(b, out, p);
+    put_byte(c, out, q)
 }
 
 fn glyph(d: u32) -> u8
@@ -59,29 +68,15 @@ fn put_decimal(z: i32, out: &mut [u8], at: usize) -> usize
     put_digits(n, out, at)
 }
 
-fn put_inf(out: &mut [u8], at: usize) -> usize
-    ensures { λ r. ⌜ Put inf (now (out .entry)) at (now (out .exit)) r ⌝ }
-{
-    let a = put_byte(b'i', out, at);
-    let b = put_byte(b'n', out, a);
-    put_byte(b'f', out, b)
-}
-
-// A soft value by its word.
+// A soft value by its word, behind a space.
 fn put_soft(z: i32, out: &mut [u8], at: usize) -> usize
-    ensures { λ r. ⌜ Put (softText (softOf z)) (now (out .entry)) at (now (out .exit)) r ⌝ }
-{
-    if z == 2147483647 {
-        return put_inf(out, at);
-    }
-    put_decimal(z, out, at)
-}
-
-fn put_spaced(z: i32, out: &mut [u8], at: usize) -> usize
     ensures { λ r. ⌜ Put (32 ∷ softText (softOf z)) (now (out .entry)) at (now (out .exit)) r ⌝ }
 {
     let e = put_byte(b' ', out, at);
-    put_soft(z, out, e)
+    if z == 2147483647 {
+        return put_three(b'i', b'n', b'f', out, e);
+    }
+    put_decimal(z, out, e)
 }
 
 // Soft values by their words, each behind a space.
@@ -92,7 +87,7 @@ fn put_softs(soft: &[i32], out: &mut [u8], at: usize) -> usize
     let mut e = at;
     let mut i: usize = 0;
     while i < soft.len() {
-        e = put_spaced(soft[i], out, e);
+        e = put_soft(soft[i], out, e);
         i += 1;
     }
     e
@@ -104,10 +99,11 @@ fn bit_glyph(b: u8) -> u8
     if b == 0 { b'0' } else { b'1' }
 }
 
+// Bits behind a space.
 fn put_bits(bits: &[u8], out: &mut [u8], at: usize) -> usize
-    ensures { λ r. ⌜ Put (bitsText (now (bits .entry))) (now (out .entry)) at (now (out .exit)) r ⌝ }
+    ensures { λ r. ⌜ Put (32 ∷ bitsText (now (bits .entry))) (now (out .entry)) at (now (out .exit)) r ⌝ }
 {
-    let mut e = at;
+    let mut e = put_byte(b' ', out, at);
     let mut i: usize = 0;
     while i < bits.len() {
         let g = bit_glyph(bits[i]);
@@ -117,11 +113,13 @@ fn put_bits(bits: &[u8], out: &mut [u8], at: usize) -> usize
     e
 }
 
+// The payload behind a space.
 fn put_payload(bits: &[u8], out: &mut [u8], at: usize) -> usize
-    ensures { λ r. ⌜ Put (payloadText (now (bits .entry))) (now (out .entry)) at (now (out .exit)) r ⌝ }
+    ensures { λ r. ⌜ Put (32 ∷ payloadText (now (bits .entry))) (now (out .entry)) at (now (out .exit)) r ⌝ }
 {
     if bits.len() == 0 {
-        return put_byte(b'-', out, at);
+        let e = put_byte(b' ', out, at);
+        return put_byte(b'-', out, e);
     }
     put_bits(bits, out, at)
 }
@@ -130,20 +128,8 @@ fn put_payload(bits: &[u8], out: &mut [u8], at: usize) -> usize
 fn put_head(a: u8, b: u8, n: u32, out: &mut [u8]) -> usize
     ensures { λ r. ⌜ Put (a ∷ b ∷ 32 ∷ natText n) (now (out .entry)) 0 (now (out .exit)) r ⌝ }
 {
-    let p = put_byte(a, out, 0);
-    let q = put_byte(b, out, p);
-    let e = put_byte(b' ', out, q);
+    let e = put_three(a, b, b' ', out, 0);
     put_digits(n, out, e)
-}
-
-// The frozen check and the line feed.
-fn put_tail(check: u8, out: &mut [u8], at: usize) -> usize
-    ensures { λ r. ⌜ Put (32 ∷ bitText check ∷ 10 ∷ []) (now (out .entry)) at (now (out .exit)) r ⌝ }
-{
-    let p = put_byte(b' ', out, at);
-    let g = bit_glyph(check);
-    let q = put_byte(g, out, p);
-    put_byte(b'\n', out, q)
 }
 
 // The line of an accepted decode, by the words of its soft values, from the buffer's start on; answers its length.
@@ -159,11 +145,10 @@ pub fn print_decoded(
 {
     let a = put_head(b'o', b'k', cycles, out);
     let b = put_softs(soft, out, a);
-    let c = put_byte(b' ', out, b);
-    let d = put_bits(hard, out, c);
-    let e = put_byte(b' ', out, d);
-    let f = put_payload(payload, out, e);
-    put_tail(check, out, f)
+    let c = put_bits(hard, out, b);
+    let d = put_payload(payload, out, c);
+    let g = bit_glyph(check);
+    put_three(b' ', g, b'\n', out, d)
 }
 
 // The line of a refusal, from the buffer's start on; answers its length.

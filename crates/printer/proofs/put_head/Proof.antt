@@ -4,14 +4,8 @@ use borrow.Author.Needs.{needs}
 use Rattle.printer.proofs.put_head.Statement.{statement}
 use Rattle.printer.proofs.put_head.Tie as tie
 
-put-byte-requires : tie.Need-put-byte-requires
-put-byte-requires c κs = search needs
-
-put-byte-requires-2 : tie.Need-put-byte-requires-2
-put-byte-requires-2 c κs = search needs
-
-put-byte-requires-3 : tie.Need-put-byte-requires-3
-put-byte-requires-3 c κs = search needs
+put-three-requires : tie.Need-put-three-requires
+put-three-requires c κs = search needs
 
 put-digits-requires : tie.Need-put-digits-requires
 put-digits-requires c κs = search needs
@@ -21,19 +15,8 @@ same-length c = search needs
 
 returns : tie.Need-returns
 returns c =
-    let c4 = c .before .before in
-    let c3 = c4 .before .before .before .before in
-    let c2 = c3 .before .before .before .before in
-    let c1 = c2 .before .before .before .before in
-    put-then (put-then (put-then (c1 .put-byte .ensures) (c2 .put-byte2 .ensures)) (c3 .put-byte3 .ensures)) (c4 .put-digits .ensures)
+    let c2 = c .before .before in
+    put-then (c2 .before .before .before .before .put-three .ensures) (c2 .put-digits .ensures)
 
 pub put-head-spec : {M : Type 1} → statement M
-put-head-spec =
-    tie.close
-    (tie.spec
-    put-byte-requires
-    put-byte-requires-2
-    put-byte-requires-3
-    put-digits-requires
-    same-length
-    returns)
+put-head-spec = tie.close (tie.spec put-three-requires put-digits-requires same-length returns)

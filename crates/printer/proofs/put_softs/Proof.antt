@@ -30,14 +30,14 @@ abbrev μ-loop : tie.MeasureT-loop
 loop-holds : tie.Need-loop-holds Inv-loop μ-loop
 loop-holds c = (omega arith, going-start _ _ _, omega arith)
 
-mul-put-spaced : tie.Need-mul-put-spaced Inv-loop μ-loop
-mul-put-spaced c = search needs
+mul-put-soft : tie.Need-mul-put-soft Inv-loop μ-loop
+mul-put-soft c = search needs
 
-shared-slice-copy-out-put-spaced : tie.Need-shared-slice-copy-out-put-spaced Inv-loop μ-loop
-shared-slice-copy-out-put-spaced c = search needs
+shared-slice-copy-out-put-soft : tie.Need-shared-slice-copy-out-put-soft Inv-loop μ-loop
+shared-slice-copy-out-put-soft c = search needs
 
-put-spaced-requires : tie.Need-put-spaced-requires Inv-loop μ-loop
-put-spaced-requires c κs = search needs
+put-soft-requires : tie.Need-put-soft-requires Inv-loop μ-loop
+put-soft-requires c κs = search needs
 
 add-i : tie.Need-add-i Inv-loop μ-loop
 add-i c = search needs
@@ -54,11 +54,11 @@ loop-again c =
     let l = a .before .before in
     let s = l .before .before .args .soft .now in
     let z = toZ w32 (ofZ w32 (getD s (l .loop .i) (pos 0))) in
-    let b : z ≡ getD s (l .loop .i) (pos 0) = toZ-ofZ {w = w32} {z = getD s (l .loop .i) (pos 0)} (record { sfits = a .put-spaced-arg .given }) in
-    let n : length (softText (softOf z)) ≤ 11 = rw b (soft-eleven (getD s (l .loop .i) (pos 0)) (a .put-spaced-arg .given)) in
+    let b : z ≡ getD s (l .loop .i) (pos 0) = toZ-ofZ {w = w32} {z = getD s (l .loop .i) (pos 0)} (record { sfits = a .put-soft-arg .given }) in
+    let n : length (softText (softOf z)) ≤ 11 = rw b (soft-eleven (getD s (l .loop .i) (pos 0)) (a .put-soft-arg .given)) in
     let e = softs-on s (l .loop .i) z (a .before .loop-test .taken) b in (
       omega arith,
-      going-on (l .loop .inv .1) (softsFrom s (l .loop .i + 1)) e (c .before .before .put-spaced .ensures),
+      going-on (l .loop .inv .1) (softsFrom s (l .loop .i + 1)) e (c .before .before .put-soft .ensures),
       omega (arith, l .loop .inv .2, sym (ap length e), length-append (softText (softOf z)) (softsFrom s (l .loop .i + 1))),
     )
 
@@ -79,9 +79,9 @@ put-softs-spec =
     Inv-loop
     μ-loop
     loop-holds
-    mul-put-spaced
-    shared-slice-copy-out-put-spaced
-    put-spaced-requires
+    mul-put-soft
+    shared-slice-copy-out-put-soft
+    put-soft-requires
     add-i
     loop-less
     loop-again

@@ -1,8 +1,8 @@
--- `printer::put_inf` meets its contract: one byte behind another. Assumes nothing.
+-- `printer::put_three` meets its contract: one byte behind another. Assumes nothing.
 use Rattle.printer.proofs.Puts.{put-then}
 use borrow.Author.Needs.{needs}
-use Rattle.printer.proofs.put_inf.Statement.{statement}
-use Rattle.printer.proofs.put_inf.Tie as tie
+use Rattle.printer.proofs.put_three.Statement.{statement}
+use Rattle.printer.proofs.put_three.Tie as tie
 
 put-byte-requires : tie.Need-put-byte-requires
 put-byte-requires c κs = search needs
@@ -23,7 +23,7 @@ returns c =
     let c1 = c2 .before .before .before .before in
     put-then (put-then (c1 .put-byte .ensures) (c2 .put-byte2 .ensures)) (c3 .put-byte3 .ensures)
 
-pub put-inf-spec : {M : Type 1} → statement M
-put-inf-spec =
+pub put-three-spec : {M : Type 1} → statement M
+put-three-spec =
     tie.close
     (tie.spec put-byte-requires put-byte-requires-2 put-byte-requires-3 same-length returns)
