@@ -1,7 +1,7 @@
 -- What an accepted line says: its number is 0. For the callers of `read_line`. Assumes nothing.
 use mathlib.Core.Path.{_≡_, refl, sym, subst}
-use mathlib.Core.Bool.{Bool, true, false, not}
-use mathlib.Core.List.{List, _∷_}
+use mathlib.Core.Bool.{true, not}
+use mathlib.Core.List.{List}
 use Prim.Native.Nat.{ℕ}
 use native.Mathlib.Omega.{arith}
 use lib.Dec.{T, eqb, leb}
@@ -9,8 +9,7 @@ use lib.IntN.{ℤ}
 use lib.ListN.{length, take, drop}
 use lib.Seq.{take-at}
 use borrow.Author.Tests.{eq-eqb, ne-eqb, eqb-true, leb-true}
-use Rattle.model.specs.Lists.{atMost, over}
-use Rattle.model.specs.Encoding.{maxMask}
+use Rattle.model.specs.Lists.{over}
 use Rattle.model.specs.Refusals.{exponent, maxSweeps, accepted}
 use Rattle.model.proofs.Refusals.{passes, length-small}
 use Rattle.fields.specs.Grammar.{Reading, malformed, reading}

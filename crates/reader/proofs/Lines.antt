@@ -1,16 +1,16 @@
 -- The line as a whole: its mask, the sweeps and the LLRs, and what it answers and leaves. Assumes nothing.
 use mathlib.Core.Path.{_≡_, refl, sym, ap, ap₂, _∙_}
-use mathlib.Core.Bool.{Bool, true, false, cond, _&&_}
+use mathlib.Core.Bool.{Bool, true, false, cond}
 use mathlib.Core.List.{List, [], _∷_, map}
 use Prim.Native.Nat.{ℕ, _+_, _≤_, _<_, min, zero-le}
 use native.Mathlib.Omega.{arith}
 use lib.Dec.{leb}
 use lib.IntN.{ℤ}
 use lib.ListN.{length, take, drop, length-map}
-use lib.Seq.{sets, take-at, length-take-le}
+use lib.Seq.{take-at, length-take-le}
 use borrow.Author.Tests.{lt-ltb, le-ltb, le-leb, lt-leb, leb-true, leb-false}
 use Rattle.model.specs.Lists.{atMost, over}
-use Rattle.model.specs.Refusals.{refusal, llrsInRange, accepted}
+use Rattle.model.specs.Refusals.{llrsInRange, accepted}
 use Rattle.fields.specs.Grammar.{firstOf, fields, isDigits, digit, isNumber, value, allNumbers, maxLine, Reading, malformed, reading, readFields, readLine}
 use Rattle.fields.specs.Steps.{fieldAt, nextAt, rest}
 use Rattle.fields.proofs.Bytes.{and-false}

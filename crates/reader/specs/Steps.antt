@@ -32,13 +32,13 @@ unfoldable pub fieldsNumber : ℕ → Bool → ℕ → ℕ → Bool → ℕ
 fieldsNumber digits bits sweeps llrs inRange =
     refusal (row-1 digits ∷ test 2 bits ∷ row-3 llrs digits ∷ row-4 sweeps ∷ test 7 inRange ∷ [])
 
--- what a line without its line feed answers
+-- what is answered of a line
 pub record Answered (line : Reading) (number size sweeps : ℕ) : Type 0 where
   pub number-is : number ≡ lineNumber line
   pub size-is : size ≡ lineSize line
   pub sweeps-are : sweeps ≡ lineSweeps line
 
--- where an accepted line has its mask's digits, and the array its LLRs: at the front
+-- an accepted line has its mask's digits at the front, and the array its LLRs
 pub record Fronts (line : List ℕ) (llrs : List ℤ) (size : ℕ) : Type 0 where
   pub small : size ≤ 1024
   pub within : size ≤ length line

@@ -37,7 +37,7 @@ fn is_llr(z: i32) -> bool
     z <= 32767
 }
 
-// An LLR at k, if it is in range and there is room; answers whether it is in range.
+// Stores an LLR at k, if it is in range and there is room; answers whether it is in range.
 fn store_llr(z: i32, llrs: &mut [i16], k: usize) -> bool
     ensures { λ r. ⌜ r ≡ isLlr z ⌝ }
     ensures { λ _. ⌜ (isLlr z ≡ true → now (llrs .exit) ≡ set (now (llrs .entry)) k z) ⌝ }
@@ -57,7 +57,7 @@ enum Llrs {
     Broken,
 }
 
-// The fields from a position on as LLRs, to the front of an array as far as there is room.
+// Reads the fields from a position on as LLRs, and stores them at the front of an array as far as there is room.
 fn read_llrs(line: &[u8], from: usize, llrs: &mut [i16]) -> Llrs
     requires { ⌜ from ≤ length (now line) + 1 ⌝ }
     ensures { λ r. ⌜ ReadLlrs (rest (now (line .entry)) from) (now (llrs .entry)) (now (llrs .exit)) r ⌝ }
@@ -137,7 +137,7 @@ fn answer(number: u32, size: usize, sweeps: u32) -> Line
     }
 }
 
-// A line without its line feed, whose LLRs go to the front of an array of the reader's own.
+// Reads a line without its line feed. If it is accepted, the mask's N digits are the line's first bytes, and the array has the N LLRs at its front.
 fn read_parts(line: &[u8], llrs: &mut [i16]) -> Line
     requires { ⌜ 1024 ≤ length (now llrs) ⌝ }
     ensures { λ r. ⌜ Answered (readFields (fields (now (line .entry)))) (r .number) (r .size) (r .sweeps) ⌝ }
@@ -164,7 +164,7 @@ fn read_parts(line: &[u8], llrs: &mut [i16]) -> Line
     answer(fields_number(a, bits, sweeps, count, in_range), a, sweeps)
 }
 
-// The digits of the mask field to the front of a buffer.
+// Stores the digits of the mask field at the front of a buffer.
 fn store_digits(field: &[u8], mask: &mut [u8])
     requires { ⌜ length (now field) ≤ length (now mask) ⌝ }
     ensures { λ _. ⌜ now (mask .exit) ≡ over (map digit (now (field .entry))) (now (mask .entry)) ⌝ }
@@ -176,7 +176,7 @@ fn store_digits(field: &[u8], mask: &mut [u8])
     }
 }
 
-// LLRs to the front of a buffer.
+// Copies LLRs to the front of a buffer.
 fn store_llrs(from: &[i16], llrs: &mut [i16])
     requires { ⌜ length (now from) ≤ length (now llrs) ⌝ }
     ensures { λ _. ⌜ now (llrs .exit) ≡ over (now (from .entry)) (now (llrs .entry)) ⌝ }
@@ -188,7 +188,7 @@ fn store_llrs(from: &[i16], llrs: &mut [i16])
     }
 }
 
-// A line without its line feed.
+// Reads a line without its line feed, its LLRs into an array of its own: the lent buffers are touched only if the line is accepted.
 fn read_fields(line: &[u8], mask: &mut [u8], llrs: &mut [i16]) -> Line
     requires { ⌜ (1024 ≤ length (now mask)) × (1024 ≤ length (now llrs)) ⌝ }
     ensures { λ r. ⌜ Answered (readFields (fields (now (line .entry)))) (r .number) (r .size) (r .sweeps) ⌝ }

@@ -1,8 +1,8 @@
 -- `printer::print_decoded` meets its contract: one piece behind another. Assumes nothing.
 use mathlib.Core.Path.{ap, _∙_}
-use mathlib.Core.List.{List, map}
+use mathlib.Core.List.{map}
 use lib.ListN.{length}
-use Prim.Native.Nat.{ℕ, _+_, _*_}
+use Prim.Native.Nat.{_+_, _*_}
 use Rattle.model.specs.Scan.{Decoded}
 use Rattle.words.specs.Words.{softOf}
 use Rattle.printer.specs.Text.{natText, softText, bitsText, payloadText, spaced, decoded}

@@ -1,15 +1,14 @@
 -- `reader::read_llrs` meets its contract. The loop's invariant: what was read and the fields that are left give the answer and the array. Assumes nothing.
-use mathlib.Core.Path.{_≡_, refl, sym, ap, _∙_}
-use mathlib.Core.Bool.{true, false, _&&_, Bool}
-use Prim.Native.Nat.{_+_, _-_, _≤_}
+use mathlib.Core.Path.{ap, _∙_}
+use mathlib.Core.Bool.{_&&_, Bool}
+use Prim.Native.Nat.{_+_, _-_}
 use native.Mathlib.Omega.{arith}
 use lib.ListN.{length}
 use mir.Syntax.{w32}
 use mir.Facts.{toZ-ofZ}
 use mir.Val.{SFits, toZ, ofZ}
-use Rattle.fields.specs.Steps.{fieldAt, nextAt}
+use Rattle.fields.specs.Steps.{fieldAt}
 use Rattle.fields.proofs.Bytes.{says-value, says-none}
-use Rattle.reader.specs.Steps.{isLlr}
 use Rattle.reader.proofs.Loop.{Going, going-start, going-on, going-bad, going-end}
 use borrow.Author.Needs.{needs}
 use Rattle.reader.proofs.read_llrs.Statement.{statement}

@@ -1,22 +1,19 @@
 -- `reader::read_parts` meets its contract: each return has the fields that were read, and these are the definition's. Assumes nothing.
-use mathlib.Core.Path.{_≡_, sym, ap, ap₂, _∙_}
-use mathlib.Core.Bool.{Bool, true, false}
-use Prim.Native.Nat.{ℕ, _+_, _≤_, _<_}
+use mathlib.Core.Path.{sym, ap, _∙_}
+use Prim.Native.Nat.{ℕ, _+_, _<_}
 use native.Mathlib.Omega.{arith}
 use borrow.Author.Tests.{not-true, not-false}
 use lib.ListN.{length, take}
 use lib.Seq.{length-take-le}
 use mir.Facts.{toZ-ofZ}
 use mir.Syntax.{w32}
-use mir.Val.{SFits, toZ, ofZ}
-use Rattle.model.specs.Lists.{atMost}
-use Rattle.model.specs.Refusals.{accepted}
-use Rattle.fields.specs.Grammar.{fields, isDigits, isNumber, value, readFields}
-use Rattle.fields.specs.Steps.{fieldAt, nextAt, rest}
+use mir.Val.{SFits}
+use Rattle.fields.specs.Grammar.{fields}
+use Rattle.fields.specs.Steps.{fieldAt, rest}
 use Rattle.fields.proofs.Bytes.{says-value, says-none}
 use Rattle.fields.proofs.Split.{next-most}
 use Rattle.reader.specs.Answers.{count}
-use Rattle.reader.specs.Steps.{llrsRead, ReadLlrs, fieldsNumber}
+use Rattle.reader.specs.Steps.{llrsRead}
 use Rattle.reader.proofs.Lines.{one-field, bad-mask, bad-sweeps, bad-llrs, parts-answer, refused-parts}
 use borrow.Author.Needs.{needs}
 use Rattle.reader.proofs.read_parts.Statement.{statement}
