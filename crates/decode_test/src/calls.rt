@@ -1,12 +1,16 @@
 // The calls under test, on the first elements of buffers.
-use crate::buffers::bytes;
-use crate::buffers::lent_bytes;
-use crate::buffers::lent_words;
-use crate::buffers::shorts;
 use decode::Decoded;
 use encode::Encoded;
-use planner::Planned;
 use plans::Checked;
+use reference::outputs::Outputs;
+use test_tools::buffers::Bytes;
+use test_tools::buffers::bytes;
+use test_tools::buffers::draw_words;
+use test_tools::buffers::lent_bytes;
+use test_tools::buffers::lent_words;
+use test_tools::buffers::shorts;
+use test_tools::buffers::words_stay;
+use test_tools::numbers::choose;
 
 // The lengths that a decode is called with, and its sweeps.
 pub struct Lengths {
@@ -20,7 +24,16 @@ pub struct Lengths {
     pub work: usize,
 }
 
-pub fn decode_front(
+// What a decode answered and left. `work` says that its workspace, which had drawn words, is zero as far as it was used and unchanged
+// elsewhere.
+pub struct Got {
+    pub number: u32,
+    pub cycles: u32,
+    pub work: bool,
+    pub out: Outputs,
+}
+
+fn decode_lent(
     lengths: Lengths,
     mask: &[u8],
     plan: &[u8],
@@ -42,17 +55,74 @@ pub fn decode_front(
     )
 }
 
-pub fn plan_front(mask: &[u8], n: usize, plan: &mut [u8], room: usize) -> Planned {
-    planner::plan_mask(bytes(mask, n), lent_bytes(plan, room))
+// A decode that uses the first `used` words of its workspace, if it is accepted.
+pub fn decode_front(
+    lengths: Lengths,
+    mask: Bytes,
+    plan: Bytes,
+    llrs: [i16; 2056],
+    before: Outputs,
+    used: usize,
+    seed: u32,
+) -> Got {
+    let mut soft = before.soft;
+    let mut hard = before.hard;
+    let mut payload = before.payload;
+    let mut work = [0i32; 13320];
+    draw_words(&mut work, lengths.work, seed);
+    let answer = decode_lent(
+        lengths,
+        &mask,
+        &plan,
+        &llrs,
+        &mut soft,
+        &mut hard,
+        &mut payload,
+        &mut work,
+    );
+    let cleared = choose(answer.number == 0, used, 0);
+    Got {
+        number: answer.number,
+        cycles: answer.cycles,
+        work: words_stay(&work, cleared, lengths.work, seed),
+        out: Outputs {
+            soft,
+            hard,
+            payload,
+            check: answer.check,
+        },
+    }
 }
 
-pub fn check_front(mask: &[u8], n: usize, plan: &[u8], size: usize) -> Checked {
-    plans::check_plan(bytes(mask, n), bytes(plan, size))
+// What a planner's call answered and left.
+pub struct Plan {
+    pub number: u32,
+    pub counts: [u32; 6],
+    pub plan: Bytes,
 }
 
-// Whether the payload's word was written.
-pub fn encode_front(mask: &[u8], n: usize, payload: &[u8], k: usize, word: &mut [u8]) -> bool {
-    let answer = encode::encode(bytes(mask, n), bytes(payload, k), lent_bytes(word, n));
+pub fn plan_front(mask: Bytes, n: usize, before: Bytes, room: usize) -> Plan {
+    let mut plan = before;
+    let answer = planner::plan_mask(bytes(&mask, n), lent_bytes(&mut plan, room));
+    let counts = answer.counts;
+    Plan {
+        number: answer.number,
+        counts,
+        plan,
+    }
+}
+
+pub fn check_front(mask: Bytes, n: usize, plan: Bytes, size: usize) -> Checked {
+    plans::check_plan(bytes(&mask, n), bytes(&plan, size))
+}
+
+// The payload's word to the front of a buffer, and whether it was written.
+pub struct Word {
+    pub done: bool,
+    pub word: Bytes,
+}
+
+pub fn is_done(answer: Encoded) -> bool {
     match answer {
         Encoded::Done => true,
         Encoded::BadLength => false,
@@ -60,5 +130,18 @@ pub fn encode_front(mask: &[u8], n: usize, payload: &[u8], k: usize, word: &mut 
         Encoded::BadCount => false,
         Encoded::BadPayload => false,
         Encoded::ShortOutput => false,
+    }
+}
+
+pub fn encode_front(mask: Bytes, n: usize, payload: Bytes, k: usize, before: Bytes) -> Word {
+    let mut word = before;
+    let answer = encode::encode(
+        bytes(&mask, n),
+        bytes(&payload, k),
+        lent_bytes(&mut word, n),
+    );
+    Word {
+        done: is_done(answer),
+        word,
     }
 }

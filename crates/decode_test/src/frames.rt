@@ -1,166 +1,172 @@
 // Document 01's nine frames: the numbers there, from the library and from the reference.
-use crate::buffers::same_words;
-use crate::buffers::set_value;
-use crate::buffers::short_at;
-use crate::calls::Lengths;
-use crate::calls::decode_front;
-use crate::calls::encode_front;
-use crate::calls::plan_front;
-use crate::numbers::both;
-use crate::numbers::stage_of;
-use crate::reference::scan;
-use crate::values::value_of;
-use decode::Decoded;
-ghost use Prim.Native.Nat.{_≤_};
-ghost use lib.ListN.{length};
+use crate::accepted::try_case;
+use crate::calls::is_done;
+use reference::cases::Case;
+use reference::outputs::Outputs;
+use test_tools::buffers::bytes;
+use test_tools::buffers::same_words;
+use test_tools::numbers::both;
+use test_tools::numbers::length_of;
 
 const INF: i32 = 2147483647;
 
-fn load_values(llrs: &[i16], values: &mut [u64]) {
-    let mut i = 0;
-    while i < llrs.len() {
-        set_value(values, i, value_of(short_at(llrs, i)));
-        i += 1;
-    }
-}
-
-// Whether the reference gives the soft values.
-fn reference_right(mask: &[u8], sweeps: usize, llrs: &[i16], soft: &[i32]) -> bool {
-    let n = mask.len();
-    let mut values = [0u64; 8];
-    let mut got = [0i32; 8];
-    let mut hard = [0u8; 8];
-    load_values(llrs, &mut values);
-    scan(mask, &values, stage_of(n), sweeps, &mut got, &mut hard);
-    same_words(&got, soft, n)
-}
-
-// A decode of N to 8 with the planner's plan.
-fn decode_planned(
-    mask: &[u8],
+// A decode with the planner's plan.
+struct Frame {
+    stage: usize,
+    // The mask as a number, whose lowest digit in base two is the first position.
+    mask: usize,
+    // Twice the size of each, and one more if it is negative.
+    llrs: [u8; 8],
     sweeps: usize,
-    llrs: &[i16],
-    soft: &mut [i32],
-    hard: &mut [u8],
-    payload: &mut [u8],
-) -> Decoded
-    requires { ⌜ length (now mask) ≤ 8 ⌝ }
-{
-    let n = mask.len();
-    let mut plan = [0u8; 16];
-    let mut work = [0i32; 48];
-    plan_front(mask, n, &mut plan, 2 * n);
-    let lengths = Lengths {
-        mask: n,
-        plan: 2 * n,
+    soft: [i32; 8],
+    cycles: u32,
+}
+
+fn row(
+    stage: usize,
+    mask: usize,
+    llrs: [u8; 8],
+    sweeps: usize,
+    soft: [i32; 8],
+    cycles: u32,
+) -> Frame {
+    Frame {
+        stage,
+        mask,
+        llrs,
         sweeps,
-        llrs: n,
-        soft: 8,
-        hard: 8,
-        payload: 8,
-        work: 48,
+        soft,
+        cycles,
+    }
+}
+
+// The frames to the eighth, numbered from 0.
+fn frame_at(i: usize) -> Frame {
+    match i {
+        0 => row(
+            3,
+            23,
+            [6, 5, 10, 2, 8, 13, 4, 3],
+            1,
+            [3, -4, 2, -7, 3, -2, 4, -5],
+            10,
+        ),
+        1 => row(
+            3,
+            23,
+            [6, 5, 10, 2, 8, 13, 4, 3],
+            2,
+            [3, -4, 2, -7, 3, -2, 4, -5],
+            20,
+        ),
+        2 => row(
+            2,
+            13,
+            [10, 7, 4, 2, 0, 0, 0, 0],
+            1,
+            [-1, 2, INF, INF, 0, 0, 0, 0],
+            6,
+        ),
+        3 => row(
+            2,
+            13,
+            [10, 7, 4, 2, 0, 0, 0, 0],
+            2,
+            [-3, 5, INF, INF, 0, 0, 0, 0],
+            12,
+        ),
+        4 => row(
+            1,
+            1,
+            [14, 9, 0, 0, 0, 0, 0, 0],
+            1,
+            [-4, 7, 0, 0, 0, 0, 0, 0],
+            2,
+        ),
+        5 => row(
+            2,
+            3,
+            [2, 4, 6, 8, 0, 0, 0, 0],
+            1,
+            [3, 4, 1, 2, 0, 0, 0, 0],
+            2,
+        ),
+        6 => row(
+            1,
+            3,
+            [14, 9, 0, 0, 0, 0, 0, 0],
+            1,
+            [INF, INF, 0, 0, 0, 0, 0, 0],
+            0,
+        ),
+        _ => row(
+            1,
+            0,
+            [14, 9, 0, 0, 0, 0, 0, 0],
+            1,
+            [0, 0, 0, 0, 0, 0, 0, 0],
+            0,
+        ),
+    }
+}
+
+// The word 01010101, which the first two frames decode to and the ninth encodes.
+const WORD: [u8; 8] = [0, 1, 0, 1, 0, 1, 0, 1];
+
+const PAYLOAD: [u8; 4] = [0, 0, 1, 1];
+
+fn line_right(out: Outputs) -> bool {
+    let hard = out.hard;
+    let payload = out.payload;
+    let word = WORD;
+    let sent = PAYLOAD;
+    both(
+        out.check == 1,
+        both(
+            check::same(bytes(&hard, 8), &word),
+            check::same(bytes(&payload, 4), &sent),
+        ),
+    )
+}
+
+fn decode_frame(i: usize, f: Frame) -> bool {
+    let c = Case {
+        stage: f.stage,
+        mask: 16,
+        detail: f.mask,
+        plan: 0,
+        llrs: 9,
+        sweeps: f.sweeps,
+        seed: 1,
     };
-    decode_front(lengths, mask, &plan, llrs, soft, hard, payload, &mut work)
-}
-
-// Whether the reference gives the soft values, and the decoder those and the cycles.
-fn soft_right(mask: &[u8], sweeps: usize, llrs: &[i16], want: &[i32], cycles: u32) -> bool
-    requires { ⌜ length (now mask) ≤ 8 ⌝ }
-{
-    let mut soft = [0i32; 8];
-    let mut hard = [0u8; 8];
-    let mut payload = [0u8; 8];
-    let answer = decode_planned(mask, sweeps, llrs, &mut soft, &mut hard, &mut payload);
-    let same = same_words(&soft, want, mask.len());
-    if !both(answer.number == 0, answer.cycles == cycles) {
+    let llrs = f.llrs;
+    let want = f.soft;
+    let tried = try_case(c, &llrs);
+    let out = tried.out;
+    let soft = out.soft;
+    if !both(tried.right, tried.cycles == f.cycles) {
         return false;
     }
-    both(same, reference_right(mask, sweeps, llrs, want))
-}
-
-// The first two frames: the line program's example, at 1 and 2 sweeps.
-fn line_frame(sweeps: usize, cycles: u32) -> bool {
-    let mask: [u8; 8] = [1, 1, 1, 0, 1, 0, 0, 0];
-    let llrs: [i16; 8] = [3, -2, 5, 1, 4, -6, 2, -1];
-    let want: [i32; 8] = [3, -4, 2, -7, 3, -2, 4, -5];
-    let want_hard: [u8; 8] = [0, 1, 0, 1, 0, 1, 0, 1];
-    let want_payload: [u8; 8] = [0, 0, 1, 1, 0, 0, 0, 0];
-    let mut soft = [0i32; 8];
-    let mut hard = [0u8; 8];
-    let mut payload = [0u8; 8];
-    let answer = decode_planned(&mask, sweeps, &llrs, &mut soft, &mut hard, &mut payload);
-    let same = both(
-        check::same(&hard, &want_hard),
-        check::same(&payload, &want_payload),
-    );
-    if !both(same, answer.check == 1) {
+    if !same_words(&soft, &want, length_of(f.stage)) {
         return false;
     }
-    soft_right(&mask, sweeps, &llrs, &want, cycles)
+    if i < 2 { line_right(out) } else { true }
 }
 
-fn frame_3() -> bool {
-    let mask: [u8; 4] = [1, 0, 1, 1];
-    let llrs: [i16; 4] = [5, -3, 2, 1];
-    let want: [i32; 4] = [-1, 2, INF, INF];
-    soft_right(&mask, 1, &llrs, &want, 6)
-}
-
-fn frame_4() -> bool {
-    let mask: [u8; 4] = [1, 0, 1, 1];
-    let llrs: [i16; 4] = [5, -3, 2, 1];
-    let want: [i32; 4] = [-3, 5, INF, INF];
-    soft_right(&mask, 2, &llrs, &want, 12)
-}
-
-fn frame_5() -> bool {
-    let mask: [u8; 2] = [1, 0];
-    let llrs: [i16; 2] = [7, -4];
-    let want: [i32; 2] = [-4, 7];
-    soft_right(&mask, 1, &llrs, &want, 2)
-}
-
-fn frame_6() -> bool {
-    let mask: [u8; 4] = [1, 1, 0, 0];
-    let llrs: [i16; 4] = [1, 2, 3, 4];
-    let want: [i32; 4] = [3, 4, 1, 2];
-    soft_right(&mask, 1, &llrs, &want, 2)
-}
-
-fn frame_7() -> bool {
-    let mask: [u8; 2] = [1, 1];
-    let llrs: [i16; 2] = [7, -4];
-    let want: [i32; 2] = [INF, INF];
-    soft_right(&mask, 1, &llrs, &want, 0)
-}
-
-fn frame_8() -> bool {
-    let mask: [u8; 2] = [0, 0];
-    let llrs: [i16; 2] = [7, -4];
-    let want: [i32; 2] = [0, 0];
-    soft_right(&mask, 1, &llrs, &want, 0)
-}
-
-fn frame_9() -> bool {
+fn encode_frame() -> bool {
     let mask: [u8; 8] = [1, 1, 1, 0, 1, 0, 0, 0];
-    let payload: [u8; 4] = [0, 0, 1, 1];
-    let want: [u8; 8] = [0, 1, 0, 1, 0, 1, 0, 1];
+    let payload = PAYLOAD;
+    let want = WORD;
     let mut word: [u8; 8] = [7; 8];
-    let done = encode_front(&mask, 8, &payload, 4, &mut word);
+    let done = is_done(encode::encode(&mask, &payload, &mut word));
     both(done, check::same(&word, &want))
 }
 
-// Whether a frame comes out as document 01 has it; the frames are numbered from 0.
+// Whether a frame comes out as document 01 has it.
 pub fn frame_case(i: usize) -> bool {
-    match i {
-        0 => line_frame(1, 10),
-        1 => line_frame(2, 20),
-        2 => frame_3(),
-        3 => frame_4(),
-        4 => frame_5(),
-        5 => frame_6(),
-        6 => frame_7(),
-        7 => frame_8(),
-        _ => frame_9(),
+    if i == 8 {
+        encode_frame()
+    } else {
+        decode_frame(i, frame_at(i))
     }
 }

@@ -4,20 +4,17 @@
 // right is printed with the numbers that determine it: `right(group, stage, index)` runs it alone, and a case of the numbers after
 // these, handed to the function that `right` calls for the group, does so too.
 mod accepted;
-mod buffers;
 mod calls;
-mod cases;
 mod frames;
-mod nodes;
-mod numbers;
-mod reference;
 mod refusals;
-mod values;
 
-use cases::Case;
-use numbers::length_of;
-use numbers::one_if;
-use numbers::seed_of;
+use reference::cases::Case;
+use test_tools::numbers::length_of;
+use test_tools::numbers::one_if;
+use test_tools::numbers::seed_of;
+use test_tools::report::end_line;
+use test_tools::report::print_number;
+use test_tools::report::report;
 ghost use Prim.Native.Nat.{_≤_};
 
 // The groups.
@@ -49,14 +46,14 @@ fn seed(group: usize, stage: usize, i: usize) -> u32 {
     seed_of((group % 16 * 16 + stage % 16) as u32, (i % 1048576) as u32)
 }
 
-// Each style of mask, plan and LLRs in turn, with drawn sweeps.
-fn drawn_case(stage: usize, i: usize, seed: u32) -> Case {
+// Each style of mask and plan in turn, with drawn sweeps.
+fn drawn_case(stage: usize, i: usize, llrs: usize, seed: u32) -> Case {
     Case {
         stage,
         mask: i % 16,
         detail: (seed / 16 % 11) as usize,
         plan: i / 16 % 4,
-        llrs: i / 64 % 8,
+        llrs,
         sweeps: 1 + (seed % 16) as usize,
         seed,
     }
@@ -94,7 +91,8 @@ fn case_of(group: usize, stage: usize, i: usize) -> Case {
     match group {
         1 => mask_case(stage, i, seed),
         3 => kind_case(stage, i, seed),
-        _ => drawn_case(stage, i, seed),
+        4 => drawn_case(stage, i, 8, seed),
+        _ => drawn_case(stage, i, i / 64 % 8, seed),
     }
 }
 
@@ -143,11 +141,6 @@ fn right(group: usize, stage: usize, i: usize) -> bool {
 
 // ---- what is printed
 
-fn print_number(name: &[u8], n: usize) {
-    io::write_all(1, name);
-    io::print_decimal(1, n as u64);
-}
-
 fn print_case(c: Case) {
     print_number(b", mask ", c.mask);
     print_number(b", detail ", c.detail);
@@ -172,7 +165,7 @@ fn print_mismatch(group: usize, stage: usize, i: usize) {
         _ => {}
     }
     print_number(b", seed ", seed as usize);
-    io::write_all(1, b"\n");
+    end_line();
 }
 
 // Whether a case comes out right; prints it if not.
@@ -196,12 +189,6 @@ fn count_right(group: usize, stage: usize, count: usize) -> usize
         i += 1;
     }
     sum
-}
-
-fn report(name: &[u8], right: usize, all: usize) {
-    print_number(name, right);
-    print_number(b" of ", all);
-    io::write_all(1, b"\n");
 }
 
 // A group with the same number of cases for each N to 2 ^ stages.

@@ -1,46 +1,42 @@
 // Calls with a set of faults: the answer is the number of the first, every other result is 0, and all buffers stay.
-// A set is a number whose digits in base two are the faults:
+// The faults:
 // 0 mask length, 1 mask byte, 2 number of LLRs, 3 sweeps, 4 form of the plan, 5 cuts of the plan, 6 LLR of -32768,
 // 7 soft values too short (of a planner's call: the plan), 8 hard bits too short, 9 payload too short, 10 workspace too short.
 // A variant, 0 to 11, chooses among the ways to have a fault.
+use crate::accepted::same_counts;
 use crate::accepted::words_for;
-use crate::buffers::bytes_stay;
-use crate::buffers::draw_bytes;
-use crate::buffers::draw_outputs;
-use crate::buffers::outputs_stay;
-use crate::buffers::set_byte;
-use crate::buffers::set_short;
 use crate::calls::Lengths;
 use crate::calls::check_front;
 use crate::calls::decode_front;
 use crate::calls::plan_front;
-use crate::cases::Case;
-use crate::cases::draw_llrs;
-use crate::cases::draw_mask;
-use crate::cases::unfrozen;
-use crate::numbers::bit_if;
-use crate::numbers::both;
-use crate::numbers::choose;
-use crate::numbers::length_of;
-use crate::numbers::minus;
-use crate::numbers::one_if;
-use planner::Planned;
-ghost use Prim.Native.Nat.{_≤_};
-
-const DECODE_FAULTS: usize = 11;
+use reference::cases::Case;
+use reference::cases::draw_llrs;
+use reference::cases::draw_mask;
+use reference::cases::shorts;
+use reference::nodes::draw_plan;
+use reference::outputs::draw_outputs;
+use reference::outputs::same_outputs;
+use test_tools::buffers::Bytes;
+use test_tools::buffers::draw_bytes;
+use test_tools::buffers::same_bytes;
+use test_tools::buffers::unfrozen;
+use test_tools::buffers::with_byte;
+use test_tools::faults::has;
+use test_tools::numbers::bit_if;
+use test_tools::numbers::both;
+use test_tools::numbers::choose;
+use test_tools::numbers::is_length;
+use test_tools::numbers::length_of;
+use test_tools::numbers::minus;
+use test_tools::numbers::one_if;
+ghost use Prim.Native.Nat.{_<_, _≤_};
 
 // The set of fault 5 alone.
 pub const WRONG_CUTS: usize = 32;
 
-fn has(faults: usize, place: usize) -> bool
-    requires { ⌜ place ≤ 10 ⌝ }
-{
-    (faults >> place) % 2 == 1
-}
-
-// The number of a fault in document 01.
-fn number_of(place: usize) -> u32 {
-    match place {
+// The number of the first fault in document 01, or 0.
+fn first_number(faults: usize) -> u32 {
+    match usize::trailing_zeros(faults) {
         0 => 1,
         1 => 2,
         2 => 3,
@@ -48,21 +44,10 @@ fn number_of(place: usize) -> u32 {
         4 => 5,
         5 => 6,
         6 => 7,
+        7 | 8 | 9 => 11,
         10 => 12,
-        _ => 11,
+        _ => 0,
     }
-}
-
-// The number of the first fault, or 0.
-fn first_number(faults: usize) -> u32 {
-    let mut place = 0;
-    while place < DECODE_FAULTS {
-        if has(faults, place) {
-            return number_of(place);
-        }
-        place += 1;
-    }
-    0
 }
 
 // One of four lengths.
@@ -78,6 +63,7 @@ fn pick(variant: usize, a: usize, b: usize, c: usize, d: usize) -> usize {
 // The first, middle or last of n places.
 fn spot(variant: usize, n: usize) -> usize
     requires { ⌜ 1 ≤ n ⌝ }
+    ensures { λ r. ⌜ r < n ⌝ }
 {
     match variant / 4 {
         0 => 0,
@@ -105,6 +91,8 @@ fn wrong_sweeps(variant: usize) -> usize {
     pick(variant, 0, 17, 18446744073709551615, 65537)
 }
 
+// ---- plans
+
 // A plan has a form fault by its length for variants to 3, by a byte above 1 for 4 to 7, and by its byte 0 above them.
 fn wrong_plan_length(n: usize, variant: usize) -> usize
     requires { ⌜ (1 ≤ n) × (n ≤ 1024) ⌝ }
@@ -116,66 +104,54 @@ fn wrong_plan_length(n: usize, variant: usize) -> usize
     }
 }
 
-fn spoil_plan(plan: &mut [u8], n: usize, faults: usize, variant: usize)
+fn spoil_form(plan: Bytes, n: usize, variant: usize) -> Bytes
     requires { ⌜ (1 ≤ n) × (n ≤ 1024) ⌝ }
 {
-    if !has(faults, 4) {
-        return;
-    }
     if variant < 4 {
-        return;
+        return plan;
     }
     if variant < 8 {
-        set_byte(
-            plan,
-            pick(variant, 1, n, 2 * n - 1, n / 2),
-            wrong_byte(variant),
-        );
-    } else {
-        set_byte(plan, 0, 1);
+        let p = pick(variant, 1, n, 2 * n - 1, n / 2);
+        return with_byte(plan, p, wrong_byte(variant));
     }
+    with_byte(plan, 0, 1)
 }
 
 // Wrong cuts of a leaf-only plan: by variant a second cut on the first path, a leaf without its cut, or a cut node of no kind.
-// The parent of the first two leaves is of a kind in the first case and of none in the last (see `draw_faulty_mask`).
-fn spoil_cuts(plan: &mut [u8], n: usize, faults: usize, variant: usize)
+// The parent of the first two leaves is of a kind in the first case and of none in the last (see `faulty_mask`).
+fn spoil_cuts(plan: Bytes, n: usize, variant: usize) -> Bytes
     requires { ⌜ (1 ≤ n) × (n ≤ 1024) ⌝ }
 {
-    if !has(faults, 5) {
-        return;
-    }
     if variant % 3 == 1 {
-        set_byte(plan, pick(variant / 3, n, n + 1, n + n / 2, 2 * n - 1), 0);
-        return;
+        let p = pick(variant / 3, n, n + 1, n + n / 2, 2 * n - 1);
+        return with_byte(plan, p, 0);
     }
-    set_byte(plan, n / 2, 1);
-    if variant % 3 == 2 {
-        set_byte(plan, n, 0);
-        set_byte(plan, n + 1, 0);
+    let cut = with_byte(plan, n / 2, 1);
+    if variant % 3 == 0 {
+        return cut;
+    }
+    with_byte(with_byte(cut, n, 0), n + 1, 0)
+}
+
+fn faulty_plan(stage: usize, faults: usize, variant: usize) -> Bytes {
+    let n = length_of(stage);
+    let leaves = draw_plan([0; 4112], stage, 1, 1, [0; 4112]);
+    let plan = if has(faults, 5) {
+        spoil_cuts(leaves, n, variant)
+    } else {
+        leaves
+    };
+    if has(faults, 4) {
+        spoil_form(plan, n, variant)
+    } else {
+        plan
     }
 }
 
-fn draw_leaf_plan(plan: &mut [u8], n: usize)
-    requires { ⌜ n ≤ 1024 ⌝ }
-{
-    let mut p = 0;
-    while p < n {
-        set_byte(plan, p, 0);
-        set_byte(plan, n + p, 1);
-        p += 1;
-    }
-}
-
-fn draw_faulty_plan(plan: &mut [u8], n: usize, faults: usize, variant: usize)
-    requires { ⌜ (1 ≤ n) × (n ≤ 1024) ⌝ }
-{
-    draw_leaf_plan(plan, n);
-    spoil_cuts(plan, n, faults, variant);
-    spoil_plan(plan, n, faults, variant);
-}
+// ---- masks, LLRs and lengths
 
 // The first two positions are one frozen and one unfrozen: a REP node, or a node of no kind where the wrong cuts ask for it.
-fn draw_faulty_mask(mask: &mut [u8], stage: usize, faults: usize, variant: usize, seed: u32) {
+fn faulty_mask(stage: usize, faults: usize, variant: usize, seed: u32) -> Bytes {
     let n = length_of(stage);
     let c = Case {
         stage,
@@ -186,23 +162,24 @@ fn draw_faulty_mask(mask: &mut [u8], stage: usize, faults: usize, variant: usize
         sweeps: 1,
         seed,
     };
-    draw_mask(c, mask);
     let no_kind = variant % 3 == 2;
-    set_byte(mask, 0, bit_if(!no_kind));
-    set_byte(mask, 1, bit_if(no_kind));
+    let first = with_byte(draw_mask(c), 0, bit_if(!no_kind));
+    let mask = with_byte(first, 1, bit_if(no_kind));
     if has(faults, 1) {
-        set_byte(mask, spot(variant, n), wrong_byte(variant));
+        with_byte(mask, spot(variant, n), wrong_byte(variant))
+    } else {
+        mask
     }
 }
 
-fn draw_faulty_llrs(llrs: &mut [i16], n: usize, faults: usize, variant: usize, seed: u32)
-    requires { ⌜ (1 ≤ n) × (n ≤ 1024) ⌝ }
-{
-    let mut values = [0u64; 1];
-    draw_llrs(3, n, seed, llrs, &mut values);
+fn faulty_llrs(stage: usize, faults: usize, variant: usize, seed: u32) -> [i16; 2056] {
+    let none = [0u8; 1];
+    let mut llrs = shorts(draw_llrs(3, stage, &none, seed));
     if has(faults, 6) {
-        set_short(llrs, spot(variant, n), -32768);
+        let i = spot(variant, length_of(stage));
+        llrs[i] = -32768;
     }
+    llrs
 }
 
 // A room below `least`, or from it on.
@@ -232,6 +209,39 @@ fn faulty_lengths(stage: usize, k: usize, faults: usize, variant: usize) -> Leng
     }
 }
 
+// ---- the calls
+
+// Whether a decode has the number of its faults, and a refused one has no other result and leaves the four buffers.
+pub fn call_right(
+    lengths: Lengths,
+    faults: usize,
+    seed: u32,
+    mask: Bytes,
+    plan: Bytes,
+    llrs: [i16; 2056],
+) -> bool {
+    let before = draw_outputs(2056, seed);
+    let got = decode_front(lengths, mask, plan, llrs, before, 0, seed);
+    let out = got.out;
+    if got.number != first_number(faults) {
+        return false;
+    }
+    if faults == 0 {
+        return true;
+    }
+    both(both(got.work, got.cycles == 0), same_outputs(out, before))
+}
+
+// A decode with faults.
+pub fn decode_refusal(stage: usize, faults: usize, variant: usize, seed: u32) -> bool {
+    let mask = faulty_mask(stage, faults, variant, seed);
+    let plan = faulty_plan(stage, faults, variant);
+    let llrs = faulty_llrs(stage, faults, variant, seed);
+    let k = unfrozen(mask, length_of(stage));
+    let lengths = faulty_lengths(stage, k, faults, variant);
+    call_right(lengths, faults, seed, mask, plan, llrs)
+}
+
 // The cycles that answer a check with the faults: those of a leaf-only plan, or 0.
 fn leaf_cycles(faults: usize, n: usize) -> usize
     requires { ⌜ (1 ≤ n) × (n ≤ 1024) ⌝ }
@@ -239,129 +249,50 @@ fn leaf_cycles(faults: usize, n: usize) -> usize
     if faults == 0 { minus(4 * n, 6) } else { 0 }
 }
 
-// Whether a decode has the number of its faults, and a refused one has no other result and leaves the four buffers.
-pub fn call_right(
-    lengths: Lengths,
-    faults: usize,
-    seed: u32,
-    mask: &[u8],
-    plan: &[u8],
-    llrs: &[i16],
-) -> bool {
-    let lent = lengths.work;
-    let mut soft = [0i32; 2056];
-    let mut hard = [0u8; 2056];
-    let mut payload = [0u8; 2056];
-    let mut work = [0i32; 13320];
-    draw_outputs(&mut soft, &mut hard, &mut payload, &mut work, lent, seed);
-    let answer = decode_front(
-        lengths,
-        mask,
-        plan,
-        llrs,
-        &mut soft,
-        &mut hard,
-        &mut payload,
-        &mut work,
-    );
-    let stay = outputs_stay(&soft, &hard, &payload, &work, lent, seed);
-    if answer.number != first_number(faults) {
-        return false;
-    }
-    if faults == 0 {
-        return true;
-    }
-    both(stay, both(answer.cycles == 0, answer.check == 0))
-}
-
-// A decode with faults.
-pub fn decode_refusal(stage: usize, faults: usize, variant: usize, seed: u32) -> bool {
-    let n = length_of(stage);
-    let mut mask = [0u8; 2056];
-    let mut plan = [0u8; 2056];
-    let mut llrs = [0i16; 2056];
-    draw_faulty_mask(&mut mask, stage, faults, variant, seed);
-    draw_faulty_plan(&mut plan, n, faults, variant);
-    draw_faulty_llrs(&mut llrs, n, faults, variant, seed);
-    let lengths = faulty_lengths(stage, unfrozen(&mask, n), faults, variant);
-    call_right(lengths, faults, seed, &mask, &plan, &llrs)
-}
-
 // A plan's check with faults 0, 1, 4 and 5.
 pub fn check_refusal(stage: usize, faults: usize, variant: usize, seed: u32) -> bool {
-    let n = length_of(stage);
-    let mut mask = [0u8; 2056];
-    let mut plan = [0u8; 2056];
-    draw_faulty_mask(&mut mask, stage, faults, variant, seed);
-    draw_faulty_plan(&mut plan, n, faults, variant);
+    let mask = faulty_mask(stage, faults, variant, seed);
+    let plan = faulty_plan(stage, faults, variant);
     let lengths = faulty_lengths(stage, 0, faults, variant);
-    let answer = check_front(&mask, lengths.mask, &plan, lengths.plan);
+    let answer = check_front(mask, lengths.mask, plan, lengths.plan);
     both(
         answer.number == first_number(faults),
-        answer.cycles as usize == leaf_cycles(faults, n),
+        answer.cycles as usize == leaf_cycles(faults, length_of(stage)),
     )
 }
 
-// Whether a planner's answer has the number, and for a refusal no counts.
-fn planned_right(answer: Planned, faults: usize) -> bool {
-    if answer.number != first_number(faults) {
+// Whether a planner's call has the number of its faults, and a refused one no counts and leaves the buffer.
+fn planner_refused(mask: Bytes, n: usize, room: usize, faults: usize, seed: u32) -> bool {
+    let before = draw_bytes(4112, seed);
+    let got = plan_front(mask, n, before, room);
+    let counts = got.counts;
+    let plan = got.plan;
+    if got.number != first_number(faults) {
         return false;
     }
     if faults == 0 {
         return true;
     }
-    let counts = answer.counts;
-    no_counts(&counts)
-}
-
-fn no_counts(counts: &[u32; 6]) -> bool {
-    let mut i = 0;
-    while i < 6 {
-        if counts[i] != 0 {
-            return false;
-        }
-        i += 1;
-    }
-    true
+    both(same_counts(counts, [0; 6]), same_bytes(plan, before))
 }
 
 // A planner's call with faults 0, 1 and 7.
 pub fn plan_refusal(stage: usize, faults: usize, variant: usize, seed: u32) -> bool {
     let n = length_of(stage);
-    let mut mask = [0u8; 2056];
-    let mut plan = [0u8; 2056];
-    draw_faulty_mask(&mut mask, stage, faults, variant, seed);
-    draw_bytes(&mut plan, seed);
-    let lengths = faulty_lengths(stage, 0, faults, variant);
+    let mask = faulty_mask(stage, faults, variant, seed);
+    let size = choose(has(faults, 0), wrong_length(n, variant), n);
     let free = room(has(faults, 7), 2 * n, variant);
-    let answer = plan_front(&mask, lengths.mask, &mut plan, free);
-    if !planned_right(answer, faults) {
-        return false;
-    }
-    if faults == 0 {
-        true
-    } else {
-        bytes_stay(&plan, seed)
-    }
+    planner_refused(mask, size, free, faults, seed)
 }
 
 // ---- every length of the mask
-
-fn is_allowed(n: usize) -> bool {
-    match n {
-        2 | 4 | 8 | 16 | 32 | 64 | 128 | 256 | 512 | 1024 => true,
-        _ => false,
-    }
-}
 
 // All calls on a mask of n unfrozen positions and the plan that cuts its root: they have number 0, or 1 and leave the buffers.
 pub fn length_case(n: usize, seed: u32) -> bool
     requires { ⌜ n ≤ 2056 ⌝ }
 {
-    let mask = [0u8; 2056];
-    let llrs = [0i16; 2056];
-    let mut plan = [0u8; 4112];
-    plan[1] = 1;
+    let mask = [0u8; 4112];
+    let plan = with_byte(mask, 1, 1);
     let lengths = Lengths {
         mask: n,
         plan: 2 * n,
@@ -372,29 +303,13 @@ pub fn length_case(n: usize, seed: u32) -> bool
         payload: n,
         work: 13320,
     };
-    let faults = one_if(!is_allowed(n));
-    if !planner_length(&mask, n, faults, seed) {
-        return false;
-    }
-    let answer = check_front(&mask, n, &plan, 2 * n);
-    if answer.number != first_number(faults) {
-        return false;
-    }
-    call_right(lengths, faults, seed, &mask, &plan, &llrs)
-}
-
-fn planner_length(mask: &[u8], n: usize, faults: usize, seed: u32) -> bool
-    requires { ⌜ n ≤ 2056 ⌝ }
-{
-    let mut plan = [0u8; 4112];
-    draw_bytes(&mut plan, seed);
-    let answer = plan_front(mask, n, &mut plan, 2 * n);
-    if !planned_right(answer, faults) {
-        return false;
-    }
-    if faults == 0 {
-        true
-    } else {
-        bytes_stay(&plan, seed)
-    }
+    let faults = one_if(!is_length(n));
+    let answer = check_front(mask, n, plan, 2 * n);
+    both(
+        both(
+            answer.number == first_number(faults),
+            planner_refused(mask, n, 2 * n, faults, seed),
+        ),
+        call_right(lengths, faults, seed, mask, plan, [0; 2056]),
+    )
 }

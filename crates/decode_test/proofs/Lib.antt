@@ -1,2 +1,0 @@
--- Laws that the proofs of `decode_test` cite.
-mod Signs

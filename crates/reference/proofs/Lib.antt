@@ -1,0 +1,2 @@
+-- Laws that the proofs of `reference` cite.
+mod Signs

@@ -1,0 +1,46 @@
+-- `reference::nodes::kind_of` is safe and ends. The loop's invariant: the kind is at most 6. Assumes nothing.
+use Prim.Native.Nat.{_-_, _≤_}
+use borrow.Author.Needs.{needs}
+use Rattle.reference.proofs.nodes.kind_of.Statement.{statement}
+use Rattle.reference.proofs.nodes.kind_of.Tie as tie
+
+abbrev Inv-loop : tie.InvT-loop
+Inv-loop mask first size kind₀ kind = kind ≤ 6
+
+abbrev μ-loop : tie.MeasureT-loop
+μ-loop mask first size kind₀ kind = 6 - kind
+
+loop-holds : tie.Need-loop-holds Inv-loop μ-loop
+loop-holds c = search needs
+
+fits-requires : tie.Need-fits-requires Inv-loop μ-loop
+fits-requires c κs = search needs
+
+returns : tie.Need-returns Inv-loop μ-loop
+returns c = search needs
+
+add-kind : tie.Need-add-kind Inv-loop μ-loop
+add-kind c = search needs
+
+loop-less : tie.Need-loop-less Inv-loop μ-loop
+loop-less c = search needs
+
+loop-again : tie.Need-loop-again Inv-loop μ-loop
+loop-again c = search needs
+
+returns-2 : tie.Need-returns-2 Inv-loop μ-loop
+returns-2 c = search needs
+
+pub kind-of-spec : {M : Type 1} → statement M
+kind-of-spec =
+    tie.close
+    (tie.spec
+    Inv-loop
+    μ-loop
+    loop-holds
+    fits-requires
+    returns
+    add-kind
+    loop-less
+    loop-again
+    returns-2)

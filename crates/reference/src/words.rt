@@ -1,0 +1,77 @@
+// Words and payloads by the matrix, whose entry at row i and column j is 1 exactly if the ones of j are among those of i.
+use crate::outputs::Outputs;
+use test_tools::buffers::Bytes;
+use test_tools::numbers::bit_if;
+use test_tools::numbers::both;
+use test_tools::numbers::choose_byte;
+use test_tools::numbers::either;
+use test_tools::numbers::one_if;
+ghost use Prim.Native.Nat.{_≤_};
+
+// Bit j of the product: the parity of the bits, odd bytes, at the positions that have all ones of j.
+fn column(bits: &[u8; 4112], n: usize, j: usize) -> u8
+    requires { ⌜ n ≤ 1024 ⌝ }
+{
+    let mut odd = false;
+    let mut i = 0;
+    while i < n {
+        odd = odd != both(i & j == j, bits[i] % 2 == 1);
+        i += 1;
+    }
+    bit_if(odd)
+}
+
+// The first n bits times the matrix, to the front of `over`.
+pub fn product(bits: Bytes, n: usize, over: Bytes) -> Bytes
+    requires { ⌜ n ≤ 1024 ⌝ }
+{
+    let mut word = over;
+    let mut j = 0;
+    while j < n {
+        word[j] = column(&bits, n, j);
+        j += 1;
+    }
+    word
+}
+
+// The payload's bits one after another at the unfrozen places of the first n, and zeros elsewhere.
+pub fn spread(mask: Bytes, payload: Bytes, n: usize) -> Bytes
+    requires { ⌜ n ≤ 1024 ⌝ }
+{
+    let mut bits = [0u8; 4112];
+    let mut k = 0;
+    let mut j = 0;
+    while j < n {
+        let unfrozen = mask[j] == 0;
+        bits[j] = choose_byte(unfrozen, payload[k], 0);
+        k += one_if(unfrozen);
+        j += 1;
+    }
+    bits
+}
+
+// The outputs with the payload and the frozen check that the first n hard bits give.
+pub fn read_word(mask: Bytes, n: usize, out: Outputs) -> Outputs
+    requires { ⌜ n ≤ 1024 ⌝ }
+{
+    let hard = out.hard;
+    let bits = product(hard, n, hard);
+    let mut payload = out.payload;
+    let mut clear = true;
+    let mut k = 0;
+    let mut j = 0;
+    while j < n {
+        let unfrozen = mask[j] == 0;
+        clear = both(clear, either(unfrozen, bits[j] == 0));
+        payload[k] = choose_byte(unfrozen, bits[j], payload[k]);
+        k += one_if(unfrozen);
+        j += 1;
+    }
+    let soft = out.soft;
+    Outputs {
+        soft,
+        hard,
+        payload,
+        check: bit_if(clear),
+    }
+}
