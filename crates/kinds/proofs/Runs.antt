@@ -3,7 +3,7 @@ use Prim.Native.Nat.{ℕ, zero, suc, _+_, _-_, _<_, _≤_}
 use native.Mathlib.Numerals.{add-one}
 use native.Mathlib.Omega.{arith}
 use mathlib.Core.Path.{_≡_, refl, sym, ap, ap₂, _∙_}
-use mathlib.Core.Bool.{Bool, true, false, cond, _&&_}
+use mathlib.Core.Bool.{Bool, true, false, cond, not, _&&_}
 use mathlib.Core.Option.{Option, none, some}
 use mathlib.Core.List.{List, [], _∷_, _++_, append-nil}
 use borrow.Author.Tests.{le-leb}
@@ -11,9 +11,11 @@ use lib.Dec.{T, eqb, leb}
 use lib.ListN.{replicate, length, take, drop, getD, length-drop, length-replicate, take-append-drop, drop-of-length-le, List·getD-append, getD-replicate}
 use lib.Seq.{drop-cons, length-take-le, getD-append-add}
 use Rattle.model.specs.Lists.{same}
-use Rattle.model.specs.Kinds.{Kind, rate-0, rate-1, REP, SPC, type-I, type-III, order, leastSize, pattern, onlyFirst, fits, firstOf, kindOf, isSome, isKind, row}
+use Rattle.model.specs.Encoding.{isUnfrozen, frozenToZero}
+use Rattle.model.specs.Kinds.{Kind, rate-0, rate-1, REP, SPC, type-I, type-III, order, leastSize, pattern, onlyFirst, fits, firstOf, kindOf, isSome, isKind, tag}
 use Rattle.model.proofs.Lists.{eqb-same, eqb-apart, T-true, true-T, absurd-bool, and-T, cond-both, and-assoc, and-true}
-use Rattle.model.proofs.Shortcuts.{fits-facts, firstOf-fits}
+use Rattle.model.proofs.Shortcuts.{kind-facts}
+use Rattle.model.proofs.FrozenPositions.{toZero-at, toZero-length, toZero-l, toZero-r, toZero-unfrozen, kinds-alike}
 use Rattle.kinds.specs.Runs.{allAre, front, Ends}
 
 -- ---- `same`
@@ -43,6 +45,13 @@ run-parts mask f h =
     ∙ same-append (take f mask) (drop f mask) (replicate f 1) (replicate (length mask - f) 0) (length-take-le f mask h ∙ sym (length-replicate f 1))
     ∙ ap₂ (λ (a b : Bool). a && b) (same-all 1 f (take f mask) (length-take-le f mask h)) (same-all 0 (length mask - f) (drop f mask) (length-drop f mask))
 
+pub run-test : (mask : List ℕ) (f : ℕ) → f ≤ length mask
+    → same (frozenToZero mask) (onlyFirst f (length mask)) ≡ (allAre 1 (frozenToZero (take f mask)) && allAre 0 (frozenToZero (drop f mask)))
+run-test mask f h =
+    ap (λ (n : ℕ). same (frozenToZero mask) (onlyFirst f n)) (sym (toZero-length mask))
+    ∙ run-parts (frozenToZero mask) f (rw (toZero-length mask) h)
+    ∙ ap₂ (λ (a b : List ℕ). allAre 1 a && allAre 0 b) (toZero-l f mask) (toZero-r f mask)
+
 -- ---- every pattern is a run
 pattern-run : (k : Kind) (m : ℕ) → leastSize k ≤ m → (front k m ≤ m) × (pattern k m ≡ onlyFirst (front k m) m)
 pattern-run rate-0 m h = (omega arith, sym (ap (λ (n : ℕ). replicate m 1 ++ replicate n 0) (left m) ∙ append-nil (replicate m 1)))
@@ -66,11 +75,11 @@ ownSize type-III = 5
 
 -- a node is not of two kinds
 other-kind : (j k : Kind) {o : Option Kind} → o ≡ some j → o ≡ some k → isKind j (some k) ≡ false → ⊥
-other-kind j k {o} p q e = absurd-bool (isKind j o) (ap (isKind j) p ∙ eqb-same (row j)) (ap (isKind j) q ∙ e)
+other-kind j k {o} p q e = absurd-bool (isKind j o) (ap (isKind j) p ∙ eqb-same (tag j)) (ap (isKind j) q ∙ e)
 
 -- the node is as large as that, as its kind is the upper one of those that fit
 own-size : (k : Kind) (m : ℕ) → leastSize k ≤ m → kindOf m (pattern k m) ≡ some k → ownSize k ≤ m
-unfolding kindOf firstOf same
+unfolding kindOf firstOf same frozenToZero
 own-size rate-0 m h e = h
 own-size rate-1 m h e = h
 own-size REP m h e = h
@@ -150,30 +159,63 @@ told-by mask type-III h e =
     told-mixed mask type-III (omega arith) (omega arith) e refl refl
     (rw (last-but-one, second, behind mask 2 (omega arith) e (length mask - 3) (omega arith) (omega arith)))
 
--- a mask has the size and the pattern of its kind
-kind-facts : (mask : List ℕ) (k : Kind) → kindOf (length mask) mask ≡ some k → (leastSize k ≤ length mask) × (mask ≡ pattern k (length mask))
-kind-facts mask k e = fits-facts (length mask) mask k (unfold kindOf in firstOf-fits (fits (length mask) mask) order k e)
+-- the mask by its own bytes
+pub record Read (mask : List ℕ) (o : Option Kind) : Type 0 where
+  pub nonempty : 0 < length mask
+  pub zero : not (eqb (getD mask (length mask - 1) 0) 0) ≡ isKind rate-0 o
+  pub one : eqb (getD mask 0 0) 0 ≡ isKind rate-1 o
+  pub ends : some (byEnds (frozenToZero mask)) ≡ o
 
-pub told : (mask : List ℕ) → T (isSome (kindOf (length mask) mask)) → Told mask (kindOf (length mask) mask)
+frozen-test : (mask : List ℕ) (i : ℕ) → eqb (getD (frozenToZero mask) i 0) 1 ≡ not (eqb (getD mask i 0) 0)
+frozen-test mask i = ap (λ (b : ℕ). eqb b 1) (toZero-at mask i) ∙ go (isUnfrozen (getD mask i 0))
+  where
+    go : (c : Bool) → eqb (cond c 0 1) 1 ≡ not c
+    go true = refl
+    go false = refl
+
+pub told : (mask : List ℕ) → T (isSome (kindOf (length mask) mask)) → Read mask (kindOf (length mask) mask)
 told mask t = go (kindOf (length mask) mask) refl t
   where
-    go : (o : Option Kind) → kindOf (length mask) mask ≡ o → T (isSome o) → Told mask o
+    go : (o : Option Kind) → kindOf (length mask) mask ≡ o → T (isSome o) → Read mask o
     go none e t = absurd t
     go (some k) e t =
-        let fit = kind-facts mask k e in
-        let own = own-size k (length mask) (fit .0) (ap (kindOf (length mask)) (sym (fit .1)) ∙ e) in
-        told-by mask k own (fit .1 ∙ pattern-run k (length mask) (fit .0) .1)
+        let m : List ℕ = frozenToZero mask in
+        let fit = kind-facts (length mask) mask k e in
+        let own = own-size k (length mask) (fit .0) (ap (kindOf (length mask)) (sym (fit .1)) ∙ kinds-alike (length mask) mask ∙ e) in
+        let r : Told m (some k) =
+        told-by m k (rw (toZero-length mask) own) (fit .1 ∙ pattern-run k (length mask) (fit .0) .1 ∙ ap (λ (n : ℕ). onlyFirst (front k n) n) (sym (toZero-length mask))) in
+        record {
+          nonempty = rw (toZero-length mask) at (r .nonempty);
+          zero = sym (frozen-test mask (length mask - 1)) ∙ ap (λ (n : ℕ). eqb (getD m (n - 1) 0) 1) (sym (toZero-length mask)) ∙ r .zero;
+          one = sym (ap isUnfrozen (toZero-at mask 0) ∙ toZero-unfrozen (getD mask 0 0)) ∙ r .one;
+          ends = r .ends;
+        }
 
-pub by-ends : (mask : List ℕ) (k : Kind) → leastSize k ≤ length mask → byEnds mask ≡ k → Ends mask (some k) (front k (length mask))
-by-ends mask k h e = record { kind = k; named = refl; run = refl; room = h; only = λ t. ap some (sym e) ∙ told mask t .ends }
+-- the test of a byte
+pub frozen : (mask : List ℕ) (i : ℕ) → (getD mask i 0 ≡ 0 → ⊥) → eqb (getD (frozenToZero mask) i 0) 1 ≡ true
+frozen mask i h = frozen-test mask i ∙ ap not (eqb-apart (getD mask i 0) 0 h)
 
--- the test of a byte that is not frozen
-pub unfrozen : (mask : List ℕ) (i : ℕ) → (getD mask i 0 ≡ 1 → ⊥) → eqb (getD mask i 0) 1 ≡ false
-unfrozen mask i = eqb-apart (getD mask i 0) 1
+pub unfrozen : (mask : List ℕ) (i : ℕ) → getD mask i 0 ≡ 0 → eqb (getD (frozenToZero mask) i 0) 1 ≡ false
+unfrozen mask i h = frozen-test mask i ∙ ap (λ (b : ℕ). not (eqb b 0)) h
+
+-- the kind by the bytes at both ends, places counted in the mask
+abbrev pub byPlaces : List ℕ → Kind
+byPlaces mask =
+    let m : List ℕ = frozenToZero mask in
+    let l : ℕ = length mask in
+    cond (eqb (getD m (l - 1) 0) 1) rate-0 (cond (eqb (getD m 0 0) 1)
+    (cond (eqb (getD m (l - 2) 0) 1) REP (cond (eqb (getD m 1 0) 1) (cond (eqb (getD m (l - 3) 0) 1) type-I type-III) SPC)) rate-1)
+
+pub by-ends : (mask : List ℕ) (k : Kind) → leastSize k ≤ length mask → byPlaces mask ≡ k → Ends mask (some k) (front k (length mask))
+by-ends mask k h e =
+    record { kind = k; named = refl; run = refl; room = h; only = λ t. ap some (sym (ends ∙ e)) ∙ told mask t .ends }
+  where
+    ends : byEnds (frozenToZero mask) ≡ byPlaces mask
+    ends = rw (toZero-length mask)
 
 -- a frozen byte and one that is not stand at two places
-pub apart : (mask : List ℕ) (i j : ℕ) → getD mask i 0 ≡ 1 → (getD mask j 0 ≡ 1 → ⊥) → i ≡ j → ⊥
-apart mask i j a b e = b (ap (λ (n : ℕ). getD mask n 0) (sym e) ∙ a)
+pub apart : (mask : List ℕ) (i j : ℕ) → (getD mask i 0 ≡ 0 → ⊥) → getD mask j 0 ≡ 0 → i ≡ j → ⊥
+apart mask i j a b e = a (ap (λ (n : ℕ). getD mask n 0) e ∙ b)
 
 -- ---- what the code concludes from the ends
 -- an empty part of the mask is of no kind
@@ -205,32 +247,32 @@ module _ (mask : List ℕ) {o : Option Kind} {f : ℕ} (E : Ends mask o f) where
   as-run : pattern (E .kind) (length mask) ≡ onlyFirst f (length mask)
   as-run = pattern-run (E .kind) (length mask) (E .room) .1 ∙ ap (λ (n : ℕ). onlyFirst n (length mask)) (sym (E .run))
 
-  pub of-run : same mask (onlyFirst f (length mask)) ≡ true → o ≡ kindOf (length mask) mask
+  pub of-run : same (frozenToZero mask) (onlyFirst f (length mask)) ≡ true → o ≡ kindOf (length mask) mask
   of-run e = E .only (unfold kindOf in first-some (fits (length mask) mask) (E .kind) fit)
     where
       fit : T (fits (length mask) mask (E .kind))
       fit =
-          and-T (leb (leastSize (E .kind)) (length mask)) (same mask (pattern (E .kind) (length mask))) (true-T _ (le-leb (leastSize (E .kind)) (length mask) (E .room)))
-          (true-T _ (ap (same mask) as-run ∙ e))
+          and-T (leb (leastSize (E .kind)) (length mask)) (same (frozenToZero mask) (pattern (E .kind) (length mask))) (true-T _ (le-leb (leastSize (E .kind)) (length mask) (E .room)))
+          (true-T _ (ap (same (frozenToZero mask)) as-run ∙ e))
 
-  pub no-run : same mask (onlyFirst f (length mask)) ≡ false → none ≡ kindOf (length mask) mask
+  pub no-run : same (frozenToZero mask) (onlyFirst f (length mask)) ≡ false → none ≡ kindOf (length mask) mask
   no-run e = go (kindOf (length mask) mask) refl
     where
       go : (q : Option Kind) → kindOf (length mask) mask ≡ q → none ≡ q
       go none q = refl
       go (some k) q =
           let is : kindOf (length mask) mask ≡ some (E .kind) = sym (E .only (rw q tt)) ∙ E .named in
-          absurd (absurd-bool (same mask mask) (same-refl mask) (ap (same mask) (kind-facts mask (E .kind) is .1 ∙ as-run) ∙ e))
+          absurd (absurd-bool (same (frozenToZero mask) (frozenToZero mask)) (same-refl (frozenToZero mask)) (ap (same (frozenToZero mask)) (kind-facts (length mask) mask (E .kind) is .1 ∙ as-run) ∙ e))
 
 -- ---- one more byte
 pub alike-more : (byte : ℕ) (alike : Bool) (part : List ℕ) (i : ℕ) → i < length part
-    → (alike && allAre byte (drop i part)) ≡ ((alike && eqb (getD part i 0) byte) && allAre byte (drop (i + 1) part))
-unfolding allAre
+    → (alike && allAre byte (frozenToZero (drop i part))) ≡ ((alike && eqb (cond (isUnfrozen (getD part i 0)) 0 1) byte) && allAre byte (frozenToZero (drop (i + 1) part)))
+unfolding allAre frozenToZero
 alike-more byte alike part i h =
-    rw (add-one, drop-cons part i 0) (sym (and-assoc alike (eqb (getD part i 0) byte) (allAre byte (drop (suc i) part))))
+    rw (add-one, drop-cons part i 0) (sym (and-assoc alike (eqb (cond (isUnfrozen (getD part i 0)) 0 1) byte) (allAre byte (frozenToZero (drop (suc i) part)))))
 
-pub alike-end : (byte : ℕ) (alike : Bool) (part : List ℕ) (i : ℕ) → length part ≤ i → (alike && allAre byte (drop i part)) ≡ alike
-unfolding allAre
+pub alike-end : (byte : ℕ) (alike : Bool) (part : List ℕ) (i : ℕ) → length part ≤ i → (alike && allAre byte (frozenToZero (drop i part))) ≡ alike
+unfolding allAre frozenToZero
 alike-end byte alike part i h = rw (drop-of-length-le part h) (and-true alike)
 
 -- the kind found from the part of the mask

@@ -6,7 +6,7 @@ use mathlib.Core.Option.{Option, none, some}
 use mathlib.Core.List.{List, [], _∷_}
 use lib.Dec.{T, eqb}
 use lib.ListN.{length}
-use Rattle.model.specs.Kinds.{Kind, rate-0, rate-1, REP, SPC, type-I, type-III, leastSize, kindOf, isSome}
+use Rattle.model.specs.Kinds.{Kind, rate-0, rate-1, REP, SPC, type-I, type-III, order, leastSize, kindOf, isSome, row}
 use Rattle.kinds.specs.declared.Kind as code
 use Rattle.kinds.specs.declared.Kind.the-variants.{Rate0, Rate1, Rep, Spc, TypeI, TypeIII, NoKind}
 
@@ -19,6 +19,11 @@ kindNamed Spc = some SPC
 kindNamed TypeI = some type-I
 kindNamed TypeIII = some type-III
 kindNamed NoKind = none
+
+-- a kind's place in the table's order, and the number of kinds for none
+abbrev pub rowOf : Option Kind → ℕ
+rowOf none = length order
+rowOf (some k) = row k
 
 -- every byte is b
 unfoldable pub allAre : ℕ → List ℕ → Bool

@@ -1,19 +1,18 @@
 // The kind of a node, from its part of the mask. Each kind's pattern is a run of frozen positions with unfrozen ones after it.
 use inputs::both;
 ghost use mathlib.Core.Path.{_≡_};
-ghost use mathlib.Core.Bool.{true, _||_};
+ghost use mathlib.Core.Bool.{true, cond, _||_};
 ghost use Prim.Native.Nat.{_+_, _<_, _≤_};
 ghost use lib.Dec.{T};
 ghost use lib.ListN.{length, take, drop};
 ghost use Rattle.model.specs.Lists.{same};
+ghost use Rattle.model.specs.Encoding.{isUnfrozen, frozenToZero};
 ghost use Rattle.model.specs.Kinds.{rate-0, rate-1, kindOf, isSome, isKind, onlyFirst};
-ghost use Rattle.model.specs.Plans.{isCut};
-ghost use Rattle.kinds.specs.Runs.{kindNamed, allAre, Ends};
+ghost use Rattle.model.specs.Plans.{isCut, isRate01, cutCycles};
+ghost use Rattle.kinds.specs.Runs.{kindNamed, rowOf, allAre, Ends};
 ghost use Rattle.kinds.specs.Known.{FixedAs};
 
-// Mask bytes.
-const FROZEN: u8 = 1;
-
+// The mask byte of an unfrozen position; every other byte is a frozen one's.
 const UNFROZEN: u8 = 0;
 
 // A row of the table, or none.
@@ -27,14 +26,56 @@ pub enum Kind {
     NoKind,
 }
 
-// Whether every byte of a part is the given one.
+// The number of kinds.
+pub const KINDS: usize = 6;
+
+// What the table says of a kind, or of none: its place in the order, its own cycles, and whether its message is fixed.
+pub struct Row {
+    pub place: usize,
+    pub cycles: u32,
+    pub fixed: bool,
+}
+
+fn row(place: usize, cycles: u32, fixed: bool) -> Row
+    ensures { λ r. ⌜ (r .place ≡ place) × (r .cycles ≡ cycles) × (r .fixed ≡ fixed) ⌝ }
+{
+    Row {
+        place,
+        cycles,
+        fixed,
+    }
+}
+
+// The table, a row a kind; the place of none is past the table.
+pub fn table_row(k: Kind) -> Row
+    ensures { λ r. ⌜ (r .place ≡ rowOf (kindNamed k)) × (r .cycles ≡ cutCycles (kindNamed k)) × (r .fixed ≡ isRate01 (kindNamed k)) ⌝ }
+{
+    match k {
+        Kind::Rate0 => row(0, 0, true),
+        Kind::Rate1 => row(1, 0, true),
+        Kind::Rep => row(2, 2, false),
+        Kind::Spc => row(3, 2, false),
+        Kind::TypeI => row(4, 2, false),
+        Kind::TypeIII => row(5, 2, false),
+        Kind::NoKind => row(KINDS, 0, false),
+    }
+}
+
+// 1 for a frozen position, 0 for an unfrozen one.
+fn frozen_byte(byte: u8) -> u8
+    ensures { λ r. ⌜ r ≡ cond (isUnfrozen byte) 0 1 ⌝ }
+{
+    if byte == UNFROZEN { 0 } else { 1 }
+}
+
+// Whether the positions of a part are all frozen, for 1, or all unfrozen, for 0.
 fn all_are(part: &[u8], byte: u8) -> bool
-    ensures { λ r. ⌜ r ≡ allAre byte (now (part .entry)) ⌝ }
+    ensures { λ r. ⌜ r ≡ allAre byte (frozenToZero (now (part .entry))) ⌝ }
 {
     let mut alike = true;
     let mut i = 0;
     while i < part.len() {
-        alike = both(alike, part[i] == byte);
+        alike = both(alike, frozen_byte(part[i]) == byte);
         i += 1;
     }
     alike
@@ -43,10 +84,10 @@ fn all_are(part: &[u8], byte: u8) -> bool
 // Whether the first f positions are frozen and the others unfrozen.
 fn is_run(mask: &[u8], f: usize) -> bool
     requires { ⌜ f ≤ length (now mask) ⌝ }
-    ensures { λ r. ⌜ r ≡ same (now (mask .entry)) (onlyFirst f (length (now (mask .entry)))) ⌝ }
+    ensures { λ r. ⌜ r ≡ same (frozenToZero (now (mask .entry))) (onlyFirst f (length (now (mask .entry)))) ⌝ }
 {
-    if all_are(&mask[..f], FROZEN) {
-        all_are(&mask[f..], UNFROZEN)
+    if all_are(&mask[..f], 1) {
+        all_are(&mask[f..], 0)
     } else {
         false
     }
@@ -61,19 +102,19 @@ fn candidate_at_ends(mask: &[u8]) -> Candidate
     ensures { λ r. ⌜ Ends (now (mask .entry)) (kindNamed (r .0)) (r .1) ⌝ }
 {
     let m = mask.len();
-    if mask[m - 1] == FROZEN {
+    if mask[m - 1] != UNFROZEN {
         return Candidate(Kind::Rate0, m);
     }
-    if mask[0] != FROZEN {
+    if mask[0] == UNFROZEN {
         return Candidate(Kind::Rate1, 0);
     }
-    if mask[m - 2] == FROZEN {
+    if mask[m - 2] != UNFROZEN {
         return Candidate(Kind::Rep, m - 1);
     }
-    if mask[1] != FROZEN {
+    if mask[1] == UNFROZEN {
         return Candidate(Kind::Spc, 1);
     }
-    if mask[m - 3] == FROZEN {
+    if mask[m - 3] != UNFROZEN {
         Candidate(Kind::TypeI, m - 2)
     } else {
         Candidate(Kind::TypeIII, 2)
@@ -109,7 +150,7 @@ pub fn is_rate_zero(mask: &[u8]) -> bool
     requires { ⌜ T (isSome (kindOf (length (now mask)) (now mask))) ⌝ }
     ensures { λ r. ⌜ r ≡ isKind rate-0 (kindOf (length (now (mask .entry))) (now (mask .entry))) ⌝ }
 {
-    mask[mask.len() - 1] == FROZEN
+    mask[mask.len() - 1] != UNFROZEN
 }
 
 // Whether a node that is known to be of some kind is a rate-1 node: its first position decides.

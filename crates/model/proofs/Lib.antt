@@ -3,6 +3,7 @@ pub mod Lists
 pub mod Algebra
 pub mod Transform
 pub mod Payload
+pub mod FrozenPositions
 pub mod Refusals
 pub mod Paths
 pub mod Others

@@ -1,7 +1,7 @@
 -- Laws of tests, of lists and those made by a formula, and of totals. Assumes nothing.
 use mathlib.Core.Path.{_≡_, refl, sym, _∙_, ap, ap₂, subst}
 use mathlib.Core.Bool.{Bool, true, false, cond, not, _&&_}
-use mathlib.Core.List.{List, [], _∷_, _++_}
+use mathlib.Core.List.{List, [], _∷_, _++_, map}
 use Prim.Native.Nat.{ℕ, zero, suc, _+_, _^_, _<_, _≤_, _-_, zero-le, suc-le-suc}
 use native.Mathlib.Nat.{zero-add, add-zero, suc-add, add-suc, not-suc-le-zero, le-of-suc-le-suc}
 use native.Mathlib.Omega.{arith}
@@ -182,6 +182,16 @@ eqb-apart m n h = go (eqb m n) refl
     go : (b : Bool) → eqb m n ≡ b → eqb m n ≡ false
     go true e = absurd (h (eqb→eq m n (subst T (sym e) tt)))
     go false e = e
+
+pub take-map : {A B : Type 0} (f : A → B) (n : ℕ) (xs : List A) → take n (map f xs) ≡ map f (take n xs)
+take-map f zero xs = refl
+take-map f (suc n) [] = refl
+take-map {B = B} f (suc n) (x ∷ xs) = ap {B = List B} (λ ys. f x ∷ ys) (take-map f n xs)
+
+pub drop-map : {A B : Type 0} (f : A → B) (n : ℕ) (xs : List A) → drop n (map f xs) ≡ map f (drop n xs)
+drop-map f zero xs = refl
+drop-map f (suc n) [] = refl
+drop-map f (suc n) (x ∷ xs) = drop-map f n xs
 
 pub same→eq : (a b : List ℕ) → T (same a b) → a ≡ b
 unfolding same

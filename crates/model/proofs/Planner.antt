@@ -14,10 +14,10 @@ use lib.Seq.{getD-append-add, length-take-le, ext-getD}
 use lib.Pow.{pow-pos, pow-mono}
 use Rattle.model.specs.Lists.{tabulate, bit, same, atMost}
 use Rattle.model.specs.Kinds.{isSome, firstOf, kindOf}
-use Rattle.model.specs.Encoding.{maxMask, Mask}
+use Rattle.model.specs.Encoding.{maxMask, Mask, frozenToZero}
 use Rattle.model.specs.Plans.{isCut, noCut, wellCut, Allowed, cycles, cutsBelow, cutAt, levels, plannerPlan}
 use Rattle.model.proofs.Paths.{wellCut-cut, well-l, well-r, noCut-below, allow, allowed-length, allowed-bytes, allowed-first}
-use Rattle.model.proofs.Cycles.{cost, price-le, cycles-cut, cycles-through, cost-leaf, cost-cut, cost-through}
+use Rattle.model.proofs.Cycles.{cost, cycles-cut, cycles-through, cost-leaf, cost-cut, cost-through, walk-on}
 use Rattle.model.proofs.Lists.{double, length-tabulate, getD-tabulate, halves, only, T-true, true-T, absurd-bool, and-l, and-r, and-T, at-most-at, at-most-take, at-most-drop, at-most-append, at-most-tabulate, not-bit, bit-small}
 
 -- ---- places of the heap: d levels below node p, place i
@@ -155,8 +155,8 @@ pub leaf-kind : (mask : List ℕ) → Mask zero mask → isSome (kindOf 1 mask) 
 leaf-kind mask M = go mask (M .sized) (M .bytes)
   where
     bit-kind : (x : ℕ) → x ≤ 1 → isSome (kindOf 1 (x ∷ [])) ≡ true
-    bit-kind zero h = unfold kindOf firstOf same in refl
-    bit-kind (suc zero) h = unfold kindOf firstOf same in refl
+    bit-kind zero h = unfold kindOf firstOf same frozenToZero in refl
+    bit-kind (suc zero) h = unfold kindOf firstOf same frozenToZero in refl
     bit-kind (suc (suc x)) h = let z : ⊥ = omega arith in absurd z
 
     go : (l : List ℕ) → length l ≡ 1 → T (atMost maxMask l) → isSome (kindOf 1 l) ≡ true
@@ -231,7 +231,7 @@ module _ (P Q : List ℕ) where
           → (T (wellCut P t (2 * p + 1) (drop (2 ^ t) mask)) → Chosen P t (2 * p + 1) (drop (2 ^ t) mask) → T (wellCut Q t (2 * p + 1) (drop (2 ^ t) mask)) → cost P t (2 * p + 1) (drop (2 ^ t) mask) ≤ cost Q t (2 * p + 1) (drop (2 ^ t) mask))
           → cost P (suc t) p mask ≤ cost Q (suc t) p mask
       go true e true q il ir = omega (arith, cost-cut P t p mask (C .0 e .0), cost-cut Q t p mask q)
-      go true e false q il ir = omega (arith, cost-cut P t p mask (C .0 e .0), cost-through Q t p mask q, price-le (kindOf (2 ^ suc t) mask) (true-T (isSome (kindOf (2 ^ suc t) mask)) e))
+      go true e false q il ir = omega (arith, cost-cut P t p mask (C .0 e .0), walk-on Q t p mask wQ q (true-T (isSome (kindOf (2 ^ suc t) mask)) e))
       go false e c q il ir =
           let eP : isCut P p ≡ false = C .1 e .0 in
           let eQ : isCut Q p ≡ false = no-kind t p mask e wQ in
@@ -244,7 +244,7 @@ module _ (P Q : List ℕ) where
     where
       go : (b : Bool) → isSome (kindOf (2 ^ suc t) mask) ≡ b → (c : Bool) → isCut Q p ≡ c → cycles P (suc t) p mask ≤ cycles Q (suc t) p mask
       go true e true q = omega (arith, cycles-cut P (suc t) p mask (C .0 e .0), cycles-cut Q (suc t) p mask q)
-      go true e false q = omega (arith, cycles-cut P (suc t) p mask (C .0 e .0), cycles-through Q t p mask q, price-le (kindOf (2 ^ suc t) mask) (true-T (isSome (kindOf (2 ^ suc t) mask)) e))
+      go true e false q = omega (arith, cycles-cut P (suc t) p mask (C .0 e .0), walk-on Q t p mask wQ q (true-T (isSome (kindOf (2 ^ suc t) mask)) e))
       go false e c q =
           let eP : isCut P p ≡ false = C .1 e .0 in
           let eQ : isCut Q p ≡ false = no-kind t p mask e wQ in

@@ -12,10 +12,12 @@ use lib.Seq.{take-at, drop-at}
 use native.Mathlib.Decide.{decLe}
 use Rattle.model.specs.Lists.{tabulate, same}
 use Rattle.model.specs.Soft.{Soft, certain, softZero, _at_, box, plus}
+use Rattle.model.specs.Encoding.{isUnfrozen, frozenToZero}
 use Rattle.model.specs.Scan.{Tree, message, left, right, leafValue, start, toLeft, toRight, toNode, visit}
 use Rattle.model.specs.Kinds.{Kind, rate-0, rate-1, REP, SPC, type-I, type-III, order, leastSize, butLast, onlyFirst, pattern, fits, firstOf, kindOf, others, shortcut}
 use Rattle.model.proofs.Lists.{double, getD-tabulate, tabulate-ext, tabulate-halves, and-l, and-r, same→eq, le-of-pow}
 use Rattle.model.proofs.Algebra.{box-certain, box-zero, box-zero-r, box-comm, plus-zero, plus-zero-r, plus-certain, plus-comm, box-monoid, plus-monoid}
+use Rattle.model.proofs.FrozenPositions.{toZero-at, toZero-l, toZero-r, toZero-unfrozen, toZero-none}
 use Rattle.model.proofs.Others.{spread, Local, spread-left, spread-right, spread-base}
 
 -- ---- halves of the patterns
@@ -299,9 +301,10 @@ shortcut-visit SPC t mask T L S h e = spc-kind 0 t mask T L S (omega arith) e
 shortcut-visit type-I t mask T L S h e = rep-kind 1 t mask T L S (omega arith) e
 shortcut-visit type-III t mask T L S h e = spc-kind 1 t mask T L S (omega arith) e
 
-pub fits-facts : (m : ℕ) (mask : List ℕ) (k : Kind) → T (fits m mask k) → (leastSize k ≤ m) × (mask ≡ pattern k m)
+pub fits-facts : (m : ℕ) (mask : List ℕ) (k : Kind) → T (fits m mask k) → (leastSize k ≤ m) × (frozenToZero mask ≡ pattern k m)
 fits-facts m mask k t =
-    (leb→le (leastSize k) m (and-l (leb (leastSize k) m) (same mask (pattern k m)) t), same→eq mask (pattern k m) (and-r (leb (leastSize k) m) (same mask (pattern k m)) t))
+    let plain : List ℕ = frozenToZero mask in
+    (leb→le (leastSize k) m (and-l (leb (leastSize k) m) (same plain (pattern k m)) t), same→eq plain (pattern k m) (and-r (leb (leastSize k) m) (same plain (pattern k m)) t))
 
 pub firstOf-fits : (f : Kind → Bool) (ks : List Kind) (k : Kind) → firstOf f ks ≡ some k → T (f k)
 unfolding firstOf
@@ -315,8 +318,22 @@ firstOf-fits f (x ∷ ks) k e = go (f x) refl (firstOf-fits f ks k)
     go true p rec = let q : some x ≡ some k = (rw p at e) in subst (λ (y : Kind). T (f y)) (Option·some-injective x k q) (subst T (sym p) tt)
     go false p rec = rec (rw p at e)
 
-pub kind-visit : (t : ℕ) (mask : List ℕ) (k : Kind) (T : Tree) (L : List Soft) → kindOf (2 ^ t) mask ≡ some k → Sound t mask T → message (visit t T L) ≡ shortcut k (2 ^ t) L
+-- a node of a kind has at least its least size, and its frozen positions are those of its pattern
+pub kind-facts : (m : ℕ) (mask : List ℕ) (k : Kind) → kindOf m mask ≡ some k → (leastSize k ≤ m) × (frozenToZero mask ≡ pattern k m)
 unfolding kindOf
+kind-facts m mask k e = fits-facts m mask k (firstOf-fits (fits m mask) order k e)
+
+-- `Sound` looks at frozen or not only
+sound-plain : (t : ℕ) (mask : List ℕ) (T : Tree) → Sound t mask T → Sound t (frozenToZero mask) T
+unfolding leafValue
+sound-plain zero mask T S = S ∙ sym (rw (toZero-at mask 0, toZero-unfrozen (getD mask 0 0)))
+sound-plain (suc t) mask T S = (
+  λ e. S .0 (toZero-none mask (2 ^ suc t) e),
+  rw (toZero-l (2 ^ t) mask) (sound-plain t (take (2 ^ t) mask) (left T) (S .1)),
+  rw (toZero-r (2 ^ t) mask) (sound-plain t (drop (2 ^ t) mask) (right T) (S .2)),
+)
+
+pub kind-visit : (t : ℕ) (mask : List ℕ) (k : Kind) (T : Tree) (L : List Soft) → kindOf (2 ^ t) mask ≡ some k → Sound t mask T → message (visit t T L) ≡ shortcut k (2 ^ t) L
 kind-visit t mask k T L e S =
-    let f : (leastSize k ≤ 2 ^ t) × (mask ≡ pattern k (2 ^ t)) = fits-facts (2 ^ t) mask k (firstOf-fits (fits (2 ^ t) mask) order k e) in
-    shortcut-visit k t mask T L S (f .0) (f .1)
+    let f : (leastSize k ≤ 2 ^ t) × (frozenToZero mask ≡ pattern k (2 ^ t)) = kind-facts (2 ^ t) mask k e in
+    shortcut-visit k t (frozenToZero mask) T L (sound-plain t mask T S) (f .0) (f .1)

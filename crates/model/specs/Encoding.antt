@@ -1,7 +1,7 @@
 -- Encoding: the polar matrix, the transform, and the payload's places. Assumes nothing.
 use Prim.Native.Nat.{ℕ, zero, suc, _+_, _*_, _/_, _%_, _^_}
 use mathlib.Core.Bool.{Bool, true, cond, _&&_}
-use mathlib.Core.List.{List, [], _∷_}
+use mathlib.Core.List.{List, [], _∷_, map}
 use mathlib.Core.Path.{_≡_}
 use lib.Dec.{eqb, T}
 use lib.ListN.{getD, drop, length}
@@ -49,6 +49,10 @@ pub record Mask (n : ℕ) (mask : List ℕ) : Type 0 where
 -- a mask byte: 1 frozen, 0 unfrozen
 abbrev pub isUnfrozen : ℕ → Bool
 isUnfrozen m = eqb m 0
+
+-- 1 for each frozen position, 0 for each unfrozen one
+unfoldable pub frozenToZero : List ℕ → List ℕ
+frozenToZero mask = map (λ m. cond (isUnfrozen m) 0 1) mask
 
 -- K, the number of unfrozen positions
 unfoldable pub unfrozen : List ℕ → ℕ

@@ -1,5 +1,5 @@
 -- Kinds of node: the table, a column a definition. Assumes nothing.
-use Prim.Native.Nat.{ℕ, _-_, _%_}
+use Prim.Native.Nat.{ℕ, suc, _-_, _%_}
 use mathlib.Core.Bool.{Bool, true, false, cond, not, _&&_}
 use mathlib.Core.Option.{Option, none, some}
 use mathlib.Core.List.{List, [], _∷_, _++_}
@@ -7,6 +7,7 @@ use lib.Dec.{eqb, leb}
 use lib.ListN.{replicate}
 use Rattle.model.specs.Lists.{tabulate, total, same}
 use Rattle.model.specs.Soft.{Soft, certain, softZero, _at_, box, plus}
+use Rattle.model.specs.Encoding.{frozenToZero}
 
 pub data Kind : Type 0 where
   rate-0 rate-1 REP SPC type-I type-III : Kind
@@ -41,6 +42,24 @@ leastSize SPC = 2
 leastSize type-I = 4
 leastSize type-III = 4
 
+-- column "cycles": a cut node's own
+abbrev pub ownCycles : Kind → ℕ
+ownCycles rate-0 = 0
+ownCycles rate-1 = 0
+ownCycles REP = 2
+ownCycles SPC = 2
+ownCycles type-I = 2
+ownCycles type-III = 2
+
+-- whether the message is fixed: the same whatever the node is handed
+abbrev pub isFixed : Kind → Bool
+isFixed rate-0 = true
+isFixed rate-1 = true
+isFixed REP = false
+isFixed SPC = false
+isFixed type-I = false
+isFixed type-III = false
+
 -- an operation over the other incoming values at places that are equal modulo s; e is its value over none
 unfoldable pub others : (Soft → Soft → Soft) → Soft → ℕ → ℕ → List Soft → ℕ → Soft
 others op e s m L k = total op e m (λ j. cond (eqb (j % s) (k % s) && not (eqb j k)) (L at j) e)
@@ -56,7 +75,7 @@ shortcut type-III m L = tabulate m (others box certain 2 m L)
 
 -- whether a node of size m with its part of the mask is of a kind
 abbrev pub fits : ℕ → List ℕ → Kind → Bool
-fits m mask k = leb (leastSize k) m && same mask (pattern k m)
+fits m mask k = leb (leastSize k) m && same (frozenToZero mask) (pattern k m)
 
 unfoldable pub firstOf : (Kind → Bool) → List Kind → Option Kind
 firstOf f [] = none
@@ -70,15 +89,24 @@ abbrev pub isSome : Option Kind → Bool
 isSome none = false
 isSome (some k) = true
 
--- the place of a kind in the table's order
-abbrev pub row : Kind → ℕ
-row rate-0 = 0
-row rate-1 = 1
-row REP = 2
-row SPC = 3
-row type-I = 4
-row type-III = 5
+-- a number for each kind, which tells it from the others
+abbrev pub tag : Kind → ℕ
+tag rate-0 = 0
+tag rate-1 = 1
+tag REP = 2
+tag SPC = 3
+tag type-I = 4
+tag type-III = 5
 
 abbrev pub isKind : Kind → Option Kind → Bool
 isKind k none = false
-isKind k (some j) = eqb (row k) (row j)
+isKind k (some j) = eqb (tag k) (tag j)
+
+-- the place of a kind in a list of kinds
+abbrev pub placeIn : List Kind → Kind → ℕ
+placeIn [] k = 0
+placeIn (j ∷ js) k = cond (isKind k (some j)) 0 (suc (placeIn js k))
+
+-- the place of a kind in the table's order
+abbrev pub row : Kind → ℕ
+row k = placeIn order k

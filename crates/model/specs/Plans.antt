@@ -9,7 +9,7 @@ use lib.ListN.{getD, take, drop, length, replicate}
 use Rattle.model.specs.Lists.{tabulate, every, atMost, bit}
 use Rattle.model.specs.Soft.{Soft}
 use Rattle.model.specs.Scan.{Tree, leaf, node, message, left, right, toLeft, toRight, toNode, start, sweeps}
-use Rattle.model.specs.Kinds.{Kind, rate-0, rate-1, REP, SPC, type-I, type-III, order, kindOf, isSome, isKind, shortcut}
+use Rattle.model.specs.Kinds.{Kind, order, ownCycles, isFixed, kindOf, isSome, isKind, shortcut}
 
 -- 2N bytes of 0 and 1, byte 0 being 0
 unfoldable pub isPlan : ℕ → List ℕ → Bool
@@ -86,24 +86,15 @@ Stays plan (suc t) p P Q =
 
 -- ---- the latency model: cycles of one sweep
 
+-- the rate-0 and rate-1 nodes are those with a fixed message
 abbrev pub isRate01 : Option Kind → Bool
 isRate01 none = false
-isRate01 (some rate-0) = true
-isRate01 (some rate-1) = true
-isRate01 (some REP) = false
-isRate01 (some SPC) = false
-isRate01 (some type-I) = false
-isRate01 (some type-III) = false
+isRate01 (some k) = isFixed k
 
--- a cut rate-0 or rate-1 node 0; another cut node 2
+-- a cut node has its kind's own cycles
 abbrev pub cutCycles : Option Kind → ℕ
 cutCycles none = 0
-cutCycles (some rate-0) = 0
-cutCycles (some rate-1) = 0
-cutCycles (some REP) = 2
-cutCycles (some SPC) = 2
-cutCycles (some type-I) = 2
-cutCycles (some type-III) = 2
+cutCycles (some k) = ownCycles k
 
 -- 2 for a child that is not a cut rate-0 or rate-1 node
 abbrev pub edgeCycles : List ℕ → ℕ → ℕ → List ℕ → ℕ

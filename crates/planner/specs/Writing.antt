@@ -1,10 +1,10 @@
 -- What the planner's recursion writes and counts at a node. Assumes nothing.
 use Prim.Native.Nat.{ℕ, zero, suc, _+_, _*_, _^_, _≤_}
 use mathlib.Core.Bool.{cond}
-use mathlib.Core.Option.{Option, none, some}
 use mathlib.Core.List.{List}
 use lib.ListN.{take, drop, set, getD, length}
-use Rattle.model.specs.Kinds.{Kind, order, row, isSome, kindOf}
+use Rattle.model.specs.Kinds.{isSome, kindOf}
+use Rattle.kinds.specs.Runs.{rowOf}
 
 -- a plan with the planner's cuts from node p of stage t down put in
 unfoldable pub written : ℕ → ℕ → List ℕ → List ℕ → List ℕ
@@ -12,11 +12,6 @@ written zero p mask plan = cond (isSome (kindOf 1 mask)) (set plan p 1) plan
 written (suc t) p mask plan =
     let below : List ℕ = written t (2 * p + 1) (drop (2 ^ t) mask) (written t (2 * p) (take (2 ^ t) mask) plan) in
     cond (isSome (kindOf (2 ^ suc t) mask)) (set plan p 1) below
-
--- a kind's place in the table's order, and the number of kinds for none
-abbrev pub rowOf : Option Kind → ℕ
-rowOf none = length order
-rowOf (some k) = row k
 
 -- one more of a row
 abbrev pub noted : ℕ → List ℕ → List ℕ

@@ -2,19 +2,16 @@
 // The recursion goes down the tree with a node's stage t, its number p, and its part of the mask: 2p and 2p + 1 are its children.
 use inputs::exponent_of;
 use inputs::mask_bytes;
-use kinds::Kind;
+use kinds::KINDS;
 use kinds::kind_of;
+use kinds::table_row;
 ghost use mathlib.Core.Path.{_≡_};
 ghost use mathlib.Core.List.{_++_};
 ghost use Prim.Native.Nat.{_≤_};
 ghost use lib.ListN.{length, drop, replicate};
 ghost use Rattle.model.specs.Refusals.{planNumber, planBytes, planCounts};
-ghost use Rattle.kinds.specs.Runs.{kindNamed};
 ghost use Rattle.plans.specs.Nodes.{Node};
-ghost use Rattle.planner.specs.Writing.{rowOf, written, counted, Free};
-
-// The number of kinds.
-const KINDS: usize = 6;
+ghost use Rattle.planner.specs.Writing.{written, counted, Free};
 
 // Sets the first n bytes to 0.
 fn zero_front(plan: &mut [u8], n: usize)
@@ -28,21 +25,6 @@ fn zero_front(plan: &mut [u8], n: usize)
     }
 }
 
-// The place of a kind in the table's order, and the number of kinds for none.
-fn row_of(k: Kind) -> usize
-    ensures { λ r. ⌜ r ≡ rowOf (kindNamed k) ⌝ }
-{
-    match k {
-        Kind::Rate0 => 0,
-        Kind::Rate1 => 1,
-        Kind::Rep => 2,
-        Kind::Spc => 3,
-        Kind::TypeI => 4,
-        Kind::TypeIII => 5,
-        Kind::NoKind => KINDS,
-    }
-}
-
 // Cuts each node of a kind, from node p of stage t down, that has no such node above it, and counts it by its kind.
 fn write_plan(mask: &[u8], plan: &mut [u8], counts: &mut [u32; 6], t: usize, p: usize)
     requires { ⌜ Node t p (length (now mask)) (length (now plan)) ⌝ }
@@ -50,7 +32,8 @@ fn write_plan(mask: &[u8], plan: &mut [u8], counts: &mut [u32; 6], t: usize, p: 
     ensures { λ _. ⌜ now (plan .exit) ≡ written t p (now (mask .entry)) (now (plan .entry)) ⌝ }
     ensures { λ _. ⌜ now (counts .exit) ≡ counted t (now (mask .entry)) (now (counts .entry)) ⌝ }
 {
-    let i = row_of(kind_of(mask));
+    let row = table_row(kind_of(mask));
+    let i = row.place;
     if i < KINDS {
         plan[p] = 1;
         counts[i] += 1;

@@ -4,8 +4,10 @@ use inputs::at_most;
 use inputs::both;
 use inputs::exponent_of;
 use inputs::mask_bytes;
+use kinds::KINDS;
 use kinds::Kind;
 use kinds::kind_of;
+use kinds::table_row;
 ghost use mathlib.Core.Path.{_≡_};
 ghost use mathlib.Core.Bool.{cond, _&&_};
 ghost use Prim.Native.Nat.{_+_, _*_, _≤_, _<_, _^_};
@@ -28,30 +30,23 @@ struct Cost {
     edge: u32,
 }
 
-// A cut node counts as one cut.
-fn cut_row(well: bool, cycles: u32, edge: u32) -> Cost
-    ensures { λ r. ⌜ (r .well ≡ well) × (r .cuts ≡ 1) × (r .cycles ≡ cycles) × (r .edge ≡ edge) ⌝ }
+// The cycles of an edge to a node that is a cut rate-0 or rate-1 node, or not.
+fn edge_cycles(fixed: bool) -> u32
+    ensures { λ r. ⌜ r ≡ cond fixed 0 2 ⌝ }
 {
-    Cost {
-        well,
-        cuts: 1,
-        cycles,
-        edge,
-    }
+    if fixed { 0 } else { 2 }
 }
 
 // A cut node of kind k.
 fn cut_cost(k: Kind) -> Cost
     ensures { λ r. ⌜ (r .well ≡ isSome (kindNamed k)) × (r .cuts ≡ 1) × (r .cycles ≡ cutCycles (kindNamed k)) × (r .edge ≡ cond (isRate01 (kindNamed k)) 0 2) ⌝ }
 {
-    match k {
-        Kind::Rate0 => cut_row(true, 0, 0),
-        Kind::Rate1 => cut_row(true, 0, 0),
-        Kind::Rep => cut_row(true, 2, 2),
-        Kind::Spc => cut_row(true, 2, 2),
-        Kind::TypeI => cut_row(true, 2, 2),
-        Kind::TypeIII => cut_row(true, 2, 2),
-        Kind::NoKind => cut_row(false, 0, 2),
+    let row = table_row(k);
+    Cost {
+        well: row.place < KINDS,
+        cuts: 1,
+        cycles: row.cycles,
+        edge: edge_cycles(row.fixed),
     }
 }
 

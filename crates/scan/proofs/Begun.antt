@@ -100,7 +100,7 @@ begun-put true plan N w (suc t) p b mask m e = rw e
 pub leaf-constant : (plan : List ℕ) (p : ℕ) (mask : List ℕ) → T (wellCut plan 0 p mask) → constant plan 1 p mask ≡ true
 unfolding wellCut
 leaf-constant plan p mask w =
-    rw (T-true (isCut plan p) (and-l (isCut plan p) (isSome (kindOf 1 mask)) w)) (leaf-rate01 mask (and-r (isCut plan p) (isSome (kindOf 1 mask)) w) .0)
+    rw (T-true (isCut plan p) (and-l (isCut plan p) (isSome (kindOf 1 mask)) w)) (leaf-rate01 mask (and-r (isCut plan p) (isSome (kindOf 1 mask)) w))
 
 -- before the first sweep the message of a node is 0, unless the node is a leaf
 pub begun-zero : (plan : List ℕ) (t p : ℕ) (mask : List ℕ) (P : Tree) → (t ≡ 0 → ⊥) → (k : ℕ) → k < 2 ^ t → message (begun true plan t p mask P) at k ≡ softZero

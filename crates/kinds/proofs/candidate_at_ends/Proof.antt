@@ -3,7 +3,7 @@ use Prim.Native.Nat.{_-_, _<_}
 use native.Mathlib.Omega.{arith}
 use lib.ListN.{length}
 use Rattle.model.specs.Kinds.{rate-0, rate-1, REP, SPC, type-I, type-III}
-use Rattle.kinds.proofs.Runs.{by-ends, unfrozen, apart}
+use Rattle.kinds.proofs.Runs.{by-ends, frozen, unfrozen, apart}
 use Rattle.kinds.proofs.candidate_at_ends.Statement.{statement}
 use Rattle.kinds.proofs.candidate_at_ends.Tie as tie
 
@@ -14,7 +14,9 @@ shared-slice-read-if1 : tie.Need-shared-slice-read-if1
 shared-slice-read-if1 c = omega arith
 
 returns : tie.Need-returns
-returns c = by-ends (c .before .before .args .mask .now) rate-0 (omega arith) (rw (c .if1 .taken))
+returns c =
+    let mask = c .before .before .args .mask .now in
+    by-ends mask rate-0 (omega arith) (rw (frozen mask (length mask - 1) (c .if1 .taken)))
 
 shared-slice-read-if2 : tie.Need-shared-slice-read-if2
 shared-slice-read-if2 c = omega arith
@@ -43,7 +45,7 @@ returns-3 : tie.Need-returns-3
 returns-3 c =
     let d = c .before .before in
     let mask = d .before .before .before .before .args .mask .now in
-    by-ends mask REP (two d) (rw (unfrozen mask (length mask - 1) (d .before .before .if1 .left), d .if2 .left, c .if3 .taken))
+    by-ends mask REP (two d) (rw (unfrozen mask (length mask - 1) (d .before .before .if1 .left), frozen mask 0 (d .if2 .left), frozen mask (length mask - 2) (c .if3 .taken)))
 
 -- and more than two, as the last but one is not frozen
 three : (c : tie.Else3) → 2 < length (c .before .before .before .before .before .before .args .mask .now)
@@ -61,7 +63,7 @@ returns-4 c =
     let d = e .before .before in
     let mask = d .before .before .before .before .args .mask .now in
     by-ends mask SPC (two d)
-    (rw (unfrozen mask (length mask - 1) (d .before .before .if1 .left), d .if2 .left, unfrozen mask (length mask - 2) (e .if3 .left), unfrozen mask 1 (c .if4 .taken)))
+    (rw (unfrozen mask (length mask - 1) (d .before .before .if1 .left), frozen mask 0 (d .if2 .left), unfrozen mask (length mask - 2) (e .if3 .left), unfrozen mask 1 (c .if4 .taken)))
 
 -- and more than three, as the second is frozen
 four : (c : tie.Else4) → 3 < length (c .before .before .before .before .before .before .before .before .args .mask .now)
@@ -86,7 +88,7 @@ returns-5 c =
     let d = e .before .before in
     let mask = d .before .before .before .before .args .mask .now in
     by-ends mask type-I (four g)
-    (rw (unfrozen mask (length mask - 1) (d .before .before .if1 .left), d .if2 .left, unfrozen mask (length mask - 2) (e .if3 .left), g .if4 .left, c .if5 .taken))
+    (rw (unfrozen mask (length mask - 1) (d .before .before .if1 .left), frozen mask 0 (d .if2 .left), unfrozen mask (length mask - 2) (e .if3 .left), frozen mask 1 (g .if4 .left), frozen mask (length mask - 3) (c .if5 .taken)))
 
 returns-6 : tie.Need-returns-6
 returns-6 c =
@@ -95,7 +97,7 @@ returns-6 c =
     let d = e .before .before in
     let mask = d .before .before .before .before .args .mask .now in
     by-ends mask type-III (four g)
-    (rw (unfrozen mask (length mask - 1) (d .before .before .if1 .left), d .if2 .left, unfrozen mask (length mask - 2) (e .if3 .left), g .if4 .left, unfrozen mask (length mask - 3) (c .if5 .left)))
+    (rw (unfrozen mask (length mask - 1) (d .before .before .if1 .left), frozen mask 0 (d .if2 .left), unfrozen mask (length mask - 2) (e .if3 .left), frozen mask 1 (g .if4 .left), unfrozen mask (length mask - 3) (c .if5 .left)))
 
 pub candidate-at-ends-spec : {M : Type 1} → statement M
 candidate-at-ends-spec =

@@ -4,9 +4,10 @@ use mathlib.Core.Bool.{Bool, _&&_}
 use borrow.Author.Needs.{needs}
 use lib.ListN.{drop}
 use lib.Seq.{length-take-le}
+use Rattle.model.specs.Encoding.{frozenToZero}
 use Rattle.kinds.specs.Runs.{allAre}
 use Rattle.model.proofs.Lists.{take-left}
-use Rattle.kinds.proofs.Runs.{run-parts}
+use Rattle.kinds.proofs.Runs.{run-test}
 use Rattle.kinds.proofs.is_run.Statement.{statement}
 use Rattle.kinds.proofs.is_run.Tie as tie
 
@@ -33,16 +34,16 @@ returns c =
     let d = c .before .before in
     let s = d .before .before .before .before in
     let mask = s .args .mask .now in
-    c .all-are2 .ensures ∙ ap (allAre 0) (take-left mask (s .args .f))
-    ∙ ap (λ (z : Bool). z && allAre 0 (drop (s .args .f) mask)) (sym (d .if1 .taken) ∙ d .before .all-are .ensures)
-    ∙ sym (run-parts mask (s .args .f) (s .pre))
+    c .all-are2 .ensures ∙ ap (λ x. allAre 0 (frozenToZero x)) (take-left mask (s .args .f))
+    ∙ ap (λ (z : Bool). z && allAre 0 (frozenToZero (drop (s .args .f) mask))) (sym (d .if1 .taken) ∙ d .before .all-are .ensures)
+    ∙ sym (run-test mask (s .args .f) (s .pre))
 
 returns-2 : tie.Need-returns-2
 returns-2 c =
     let s = c .before .before .before .before in
     let mask = s .args .mask .now in
-    ap (λ (z : Bool). z && allAre 0 (drop (s .args .f) mask)) (sym (c .if1 .left) ∙ c .before .all-are .ensures)
-    ∙ sym (run-parts mask (s .args .f) (s .pre))
+    ap (λ (z : Bool). z && allAre 0 (frozenToZero (drop (s .args .f) mask))) (sym (c .if1 .left) ∙ c .before .all-are .ensures)
+    ∙ sym (run-test mask (s .args .f) (s .pre))
 
 pub is-run-spec : {M : Type 1} → statement M
 is-run-spec =
