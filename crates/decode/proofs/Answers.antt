@@ -10,7 +10,7 @@ use lib.Dec.{eqb, leb}
 use lib.IntN.{ℤ, pos, natAbs}
 use lib.ListN.{length, getD, replicate, List·getD-map, length-append}
 use Rattle.model.specs.Lists.{tabulate, over, bit}
-use Rattle.model.specs.Soft.{Soft, finite, softZero, _at_, plus, mark, wordOf}
+use Rattle.model.specs.Soft.{Soft, finite, softZero, _at_, plus, mark, wordOf, maxLlr}
 use lib.Pow.{pow-mono}
 use Rattle.model.specs.Encoding.{unfrozen, transform, payloadOf, frozenZero}
 use Rattle.model.specs.Scan.{Tree, message, start, toNode, visit, sweeps, scan, hardBit, hardWord, decided, decodeScan}
@@ -149,10 +149,10 @@ module _ (mask plan : List ℕ) (k : ℕ) (llrs soft : List ℤ) (hard payload :
       few : N ≤ 1024
       few = let m : 2 ^ t ≤ 1024 = pow-mono (p .low) in omega (arith, p .sized)
 
-      small : (j : ℕ) → natAbs (word llrs j) ≤ 32767
-      small j = subst (Small 32767) (List·getD-map finite llrs j (pos 0)) (at-all j)
+      small : (j : ℕ) → natAbs (word llrs j) ≤ maxLlr
+      small j = subst (Small maxLlr) (List·getD-map finite llrs j (pos 0)) (at-all j)
         where
-          at-all : (j : ℕ) → Small 32767 (map finite llrs at j)
+          at-all : (j : ℕ) → Small maxLlr (map finite llrs at j)
           at-all j = llrs-small (suc j) llrs (p .range) j (pow-above j)
 
       -- what the soft values' run requires

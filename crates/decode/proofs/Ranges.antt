@@ -13,9 +13,9 @@ use Rattle.model.specs.Refusals.{llrsInRange}
 use Rattle.model.proofs.Lists.{and-assoc, and-true}
 
 pub range-more : (good : Bool) (llrs : List ℤ) (i : ℕ) → i < length llrs
-    → (good && llrsInRange (drop i llrs)) ≡ ((good && leb (natAbs (getD llrs i (pos 0))) 32767) && llrsInRange (drop (i + 1) llrs))
+    → (good && llrsInRange (drop i llrs)) ≡ ((good && leb (natAbs (getD llrs i (pos 0))) maxLlr) && llrsInRange (drop (i + 1) llrs))
 unfolding llrsInRange
-range-more good llrs i h = rw (add-one, drop-cons llrs i (pos 0)) (sym (and-assoc good (leb (natAbs (getD llrs i (pos 0))) 32767) (llrsInRange (drop (suc i) llrs))))
+range-more good llrs i h = rw (add-one, drop-cons llrs i (pos 0)) (sym (and-assoc good (leb (natAbs (getD llrs i (pos 0))) maxLlr) (llrsInRange (drop (suc i) llrs))))
 
 pub range-end : (good : Bool) (llrs : List ℤ) (i : ℕ) → length llrs ≤ i → i ≤ length llrs → (good && llrsInRange (drop i llrs)) ≡ good
 unfolding llrsInRange

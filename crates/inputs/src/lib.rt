@@ -2,13 +2,24 @@
 ghost use mathlib.Core.Path.{_≡_};
 ghost use mathlib.Core.Bool.{cond, _&&_};
 ghost use Prim.Native.Nat.{_≤_, max};
+ghost use lib.Dec.{leb};
 ghost use lib.ListN.{length};
 ghost use Rattle.model.specs.Lists.{atMost, bit};
 ghost use Rattle.model.specs.Encoding.{maxMask, unfrozen, isUnfrozen};
-ghost use Rattle.model.specs.Refusals.{exponent};
+ghost use Rattle.model.specs.Refusals.{exponent, maxSweeps, isLlr};
+ghost use Rattle.inputs.specs.Tests.{MaskTests};
+
+// The mask byte of an unfrozen position; every other byte is a frozen one's.
+pub const UNFROZEN: u8 = 0;
 
 // The largest mask byte.
-const MAX_MASK: u8 = 1;
+pub const MAX_MASK: u8 = 1;
+
+// Sweeps run from 1 to this.
+pub const MAX_SWEEPS: usize = 16;
+
+// An LLR is within ± this.
+pub const MAX_LLR: i32 = 32767;
 
 // Whether both tests are passed.
 pub fn both(a: bool, b: bool) -> bool
@@ -64,7 +75,7 @@ pub fn mask_bytes(mask: &[u8]) -> bool
 pub fn unfrozen_bit(byte: u8) -> u16
     ensures { λ r. ⌜ r ≡ bit (isUnfrozen byte) ⌝ }
 {
-    if byte == 0 { 1 } else { 0 }
+    if byte == UNFROZEN { 1 } else { 0 }
 }
 
 // K, the number of unfrozen positions of a mask. It is summed in 16 bits, which compiles to eight sums at a time.
@@ -86,4 +97,34 @@ pub fn tested(passed: bool, after: u32, number: u32) -> u32
     ensures { λ r. ⌜ r ≡ cond passed after number ⌝ }
 {
     if passed { after } else { number }
+}
+
+// What tests 1 and 2 of a mask find: the number, and the exponent of N if it is 0.
+pub struct Masked {
+    pub number: u32,
+    pub stage: usize,
+}
+
+// Tests 1 and 2, which all calls with a mask begin with.
+pub fn mask_tests(mask: &[u8]) -> Masked
+    ensures { λ r. ⌜ MaskTests (now (mask .entry)) (r .number) (r .stage) ⌝ }
+{
+    let stage = exponent_of(mask.len());
+    let second = tested(mask_bytes(mask), 0, 2);
+    let number = tested(stage != 0, second, 1);
+    Masked { number, stage }
+}
+
+// Whether the number of sweeps is allowed.
+pub fn sweeps_fit(sweeps: usize) -> bool
+    ensures { λ r. ⌜ r ≡ (leb 1 sweeps && leb sweeps maxSweeps) ⌝ }
+{
+    both(1 <= sweeps, sweeps <= MAX_SWEEPS)
+}
+
+// Whether a number is within an LLR's range.
+pub fn is_llr(z: i32) -> bool
+    ensures { λ r. ⌜ r ≡ isLlr z ⌝ }
+{
+    both(-MAX_LLR <= z, z <= MAX_LLR)
 }

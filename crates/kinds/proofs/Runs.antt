@@ -12,7 +12,7 @@ use lib.ListN.{replicate, length, take, drop, getD, length-drop, length-replicat
 use lib.Seq.{drop-cons, length-take-le, getD-append-add}
 use Rattle.model.specs.Lists.{same}
 use Rattle.model.specs.Encoding.{isUnfrozen, frozenToZero}
-use Rattle.model.specs.Kinds.{Kind, rate-0, rate-1, REP, SPC, type-I, type-III, order, leastSize, pattern, onlyFirst, fits, firstOf, kindOf, isSome, isKind, tag}
+use Rattle.model.specs.Kinds.{Kind, rate-0, rate-1, REP, SPC, type-I, type-III, order, leastSize, pattern, onlyFirst, fits, firstOf, kindOf, isSome, isKind, row}
 use Rattle.model.proofs.Lists.{eqb-same, eqb-apart, T-true, true-T, absurd-bool, and-T, cond-both, and-assoc, and-true}
 use Rattle.model.proofs.Shortcuts.{kind-facts}
 use Rattle.model.proofs.FrozenPositions.{toZero-at, toZero-length, toZero-l, toZero-r, toZero-unfrozen, kinds-alike}
@@ -75,7 +75,7 @@ ownSize type-III = 5
 
 -- a node is not of two kinds
 other-kind : (j k : Kind) {o : Option Kind} → o ≡ some j → o ≡ some k → isKind j (some k) ≡ false → ⊥
-other-kind j k {o} p q e = absurd-bool (isKind j o) (ap (isKind j) p ∙ eqb-same (tag j)) (ap (isKind j) q ∙ e)
+other-kind j k {o} p q e = absurd-bool (isKind j o) (ap (isKind j) p ∙ eqb-same (row j)) (ap (isKind j) q ∙ e)
 
 -- the node is as large as that, as its kind is the upper one of those that fit
 own-size : (k : Kind) (m : ℕ) → leastSize k ≤ m → kindOf m (pattern k m) ≡ some k → ownSize k ≤ m

@@ -1,4 +1,5 @@
 // The kind of a node, from its part of the mask. Each kind's pattern is a run of frozen positions with unfrozen ones after it.
+use inputs::UNFROZEN;
 use inputs::both;
 ghost use mathlib.Core.Path.{_≡_};
 ghost use mathlib.Core.Bool.{true, cond, _||_};
@@ -11,9 +12,6 @@ ghost use Rattle.model.specs.Kinds.{rate-0, rate-1, kindOf, isSome, isKind, onl
 ghost use Rattle.model.specs.Plans.{isCut, isRate01, cutCycles};
 ghost use Rattle.kinds.specs.Runs.{kindNamed, rowOf, allAre, Ends};
 ghost use Rattle.kinds.specs.Known.{FixedAs};
-
-// The mask byte of an unfrozen position; every other byte is a frozen one's.
-const UNFROZEN: u8 = 0;
 
 // A row of the table, or none.
 pub enum Kind {
@@ -36,7 +34,7 @@ pub struct Row {
     pub fixed: bool,
 }
 
-fn row(place: usize, cycles: u32, fixed: bool) -> Row
+fn columns(place: usize, cycles: u32, fixed: bool) -> Row
     ensures { λ r. ⌜ (r .place ≡ place) × (r .cycles ≡ cycles) × (r .fixed ≡ fixed) ⌝ }
 {
     Row {
@@ -51,13 +49,13 @@ pub fn table_row(k: Kind) -> Row
     ensures { λ r. ⌜ (r .place ≡ rowOf (kindNamed k)) × (r .cycles ≡ cutCycles (kindNamed k)) × (r .fixed ≡ isRate01 (kindNamed k)) ⌝ }
 {
     match k {
-        Kind::Rate0 => row(0, 0, true),
-        Kind::Rate1 => row(1, 0, true),
-        Kind::Rep => row(2, 2, false),
-        Kind::Spc => row(3, 2, false),
-        Kind::TypeI => row(4, 2, false),
-        Kind::TypeIII => row(5, 2, false),
-        Kind::NoKind => row(KINDS, 0, false),
+        Kind::Rate0 => columns(0, 0, true),
+        Kind::Rate1 => columns(1, 0, true),
+        Kind::Rep => columns(2, 2, false),
+        Kind::Spc => columns(3, 2, false),
+        Kind::TypeI => columns(4, 2, false),
+        Kind::TypeIII => columns(5, 2, false),
+        Kind::NoKind => columns(KINDS, 0, false),
     }
 }
 

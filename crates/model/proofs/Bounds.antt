@@ -10,7 +10,7 @@ use lib.ListN.{getD, take, drop}
 use lib.Pow.{suc-ones, pow-mono, pow-pos}
 use lib.IntN.{ℤ, pos, negsuc, natAbs, _+ℤ_, subℕ}
 use Rattle.model.specs.Lists.{tabulate, total}
-use Rattle.model.specs.Soft.{Soft, finite, certain, softZero, _at_, box, boxℤ, plus, signed, negative, differ}
+use Rattle.model.specs.Soft.{Soft, finite, certain, softZero, _at_, box, boxℤ, plus, signed, negative, differ, maxLlr}
 use Rattle.model.specs.Bounds.{Small, Under, cap, SmallAll, UnderAll, Within, Held, limit, AllUnder, ListSums, NodeSums, InRange}
 use Rattle.model.specs.Scan.{Tree, message, left, right, leafValue, start, toLeft, toRight, toNode, visit, sweeps, scan}
 use Rattle.model.proofs.Lists.{getD-tabulate, joined-lo, joined-hi, halves, only, and-l, and-r, absurd-bool, cond-both}
@@ -205,12 +205,12 @@ unfolding sweeps
 held-sweeps plan t mask B L w S zero P H = H
 held-sweeps plan t mask B L w S (suc k) P H = held-sweeps plan t mask B L w S k (walk plan t 1 mask P L) (held-walk plan t 1 mask B P L w S H)
 
-pub soft-under : (n : ℕ) (mask : List ℕ) (L : List Soft) → SmallAll n 32767 L → (k : ℕ) → UnderAll n (cap n 32767) (scan n mask L k)
+pub soft-under : (n : ℕ) (mask : List ℕ) (L : List Soft) → SmallAll n maxLlr L → (k : ℕ) → UnderAll n (cap n maxLlr) (scan n mask L k)
 unfolding scan
 soft-under n mask L S k =
-    within-message n 32767 (sweeps (λ X. visit n X L) k (start n mask)) (within-sweeps n 32767 L S k (start n mask) (within-start n 32767 mask))
+    within-message n maxLlr (sweeps (λ X. visit n X L) k (start n mask)) (within-sweeps n maxLlr L S k (start n mask) (within-start n maxLlr mask))
 
-pub cap-limit : (n : ℕ) → n ≤ 10 → 32767 + cap n 32767 ≤ limit
+pub cap-limit : (n : ℕ) → n ≤ 10 → maxLlr + cap n maxLlr ≤ limit
 cap-limit n h = let m : 2 ^ n ≤ 1024 = pow-mono h in let p : 0 < 2 ^ n = pow-pos n in omega arith
 
 -- ---- every sum is within the limit

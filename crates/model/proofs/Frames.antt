@@ -3,12 +3,12 @@ use mathlib.Core.Path.{_≡_, refl}
 use mathlib.Core.List.{map}
 use Rattle.model.specs.Lists.{tabulate, total, same}
 use Rattle.model.specs.Soft.{box, boxℤ, plus}
-use Rattle.model.specs.Encoding.{kernel, kronecker, polarMatrix, times, transform, place, payloadOf, frozenZero, encode}
+use Rattle.model.specs.Encoding.{kernel, kronecker, polarMatrix, times, transform, place, payloadOf, frozenZero, encode, frozenToZero}
 use Rattle.model.specs.Scan.{leafValue, start, toLeft, toRight, toNode, visit, sweeps, scan, hardWord, decided}
 use Rattle.model.specs.Kinds.{kindOf, shortcut, others, firstOf}
 use Rattle.model.specs.Plans.{planned, cycles, plannerPlan, levels, cutAt, walk}
 use Rattle.model.specs.Frames.{frames, computed, stated, bySoft, byCycles}
 
 pub frames-hold : map computed frames ≡ map stated frames
-unfolding frames computed stated bySoft byCycles tabulate total same box boxℤ plus kernel kronecker polarMatrix times transform place payloadOf frozenZero encode leafValue start toLeft toRight toNode visit sweeps scan hardWord decided kindOf shortcut others firstOf planned cycles plannerPlan levels cutAt walk
+unfolding frames computed stated bySoft byCycles tabulate total same box boxℤ plus kernel kronecker polarMatrix times transform place payloadOf frozenZero encode leafValue start toLeft toRight toNode visit sweeps scan hardWord decided kindOf shortcut others firstOf planned cycles plannerPlan levels cutAt walk frozenToZero
 frames-hold = refl

@@ -4,7 +4,7 @@ use mathlib.Core.Bool.{Bool, true, false, cond, _&&_}
 use mathlib.Core.List.{List, [], _∷_}
 use Prim.Native.Nat.{ℕ, zero, suc, _<_}
 use native.Mathlib.Omega.{arith}
-use lib.Dec.{leb}
+use lib.Dec.{leb, eqb·suc-zero}
 use lib.ListN.{getD, take, drop, length, replicate, length-map, length-replicate, getD-replicate, List·getD-map}
 use lib.Seq.{ext-getD}
 use Rattle.model.specs.Lists.{same}
@@ -42,12 +42,12 @@ toZero-none mask n e =
     ext-getD 0 mask (replicate n 0) (sym (toZero-length mask) ∙ ap length e)
     (λ k h. byte (getD mask k 0) (sym (toZero-at mask k) ∙ ap (λ (l : List ℕ). getD l k 0) e ∙ zeros k h) ∙ sym (zeros k h))
   where
-    zeros : (k : ℕ) → k < length mask → getD (replicate n 0) k 0 ≡ 0
+    zeros : (k : ℕ) → k < length mask → _≡_ {A = ℕ} (getD (replicate n 0) k 0) 0
     zeros k h = getD-replicate n k 0 0 (omega (arith, toZero-length mask, ap length e, length-replicate {A = ℕ} n 0))
 
-    byte : (m : ℕ) → cond (isUnfrozen m) 0 1 ≡ 0 → m ≡ 0
+    byte : (m : ℕ) → _≡_ {A = ℕ} (cond (isUnfrozen m) 0 1) 0 → m ≡ 0
     byte zero e = refl
-    byte (suc m) e = let z : ⊥ = omega arith in absurd z
+    byte (suc m) e = let z : _≡_ {A = ℕ} 1 0 = rw (eqb·suc-zero m) at e in let y : ⊥ = omega arith in absurd y
 
 -- a node's kind looks at frozen or not only
 toZero-twice : (mask : List ℕ) → frozenToZero (frozenToZero mask) ≡ frozenToZero mask

@@ -11,7 +11,7 @@ use lib.IntN.{ℤ}
 use lib.ListN.{length}
 use lib.Pow.{pow-mono}
 use Rattle.model.specs.Lists.{atMost}
-use Rattle.model.specs.Soft.{Soft, finite, _at_, plus}
+use Rattle.model.specs.Soft.{Soft, finite, _at_, plus, maxLlr}
 use Rattle.model.specs.Encoding.{Mask, unfrozen, encode}
 use Rattle.model.specs.Scan.{Tree, message, start, visit, sweeps, scan, decided, decodeScan, SignsOf}
 use Rattle.model.specs.Plans.{oneCut, cutsOfKinds, wellCut, Allowed, leafOnly, walk, planned, Agree, Stays, cycles, plannerPlan, cutsBelow}
@@ -96,26 +96,26 @@ signs-decode n mask payload llrs sized fits bits signs k =
     (signs-hard n mask payload llrs sized fits bits signs k, signs-payload n mask payload llrs sized fits bits signs k, signs-check n mask payload llrs sized fits bits signs k)
 
 -- ---- 4. Bounds, for LLRs within ±32767 and N at most 1024.
-room : (n : ℕ) → n ≤ 10 → 32767 * 2 ^ n ≤ limit
+room : (n : ℕ) → n ≤ 10 → maxLlr * 2 ^ n ≤ limit
 room n h = let m : 2 ^ n ≤ 1024 = pow-mono h in omega arith
 
--- Every message of SCAN is certain or within 32767 × 1024.
-pub messages-bound : (n : ℕ) → n ≤ 10 → (mask : List ℕ) (L : List Soft) → SmallAll n 32767 L → (k : ℕ) → AllUnder limit n (sweeps (λ T. visit n T L) k (start n mask))
+-- Every message of SCAN is certain or within maxLlr × 1024.
+pub messages-bound : (n : ℕ) → n ≤ 10 → (mask : List ℕ) (L : List Soft) → SmallAll n maxLlr L → (k : ℕ) → AllUnder limit n (sweeps (λ T. visit n T L) k (start n mask))
 messages-bound n h mask L S k =
-    within-all n 32767 (sweeps (λ T. visit n T L) k (start n mask)) (room n h) (within-sweeps n 32767 L S k (start n mask) (within-start n 32767 mask))
+    within-all n maxLlr (sweeps (λ T. visit n T L) k (start n mask)) (room n h) (within-sweeps n maxLlr L S k (start n mask) (within-start n maxLlr mask))
 
--- In each sweep along an allowed plan no incoming list has a certain value, and every incoming value and every sum is within 32767 × 1024.
-pub sums-bound : (n : ℕ) → n ≤ 10 → (plan mask : List ℕ) → Allowed n plan mask → (L : List Soft) → SmallAll n 32767 L → (k : ℕ)
+-- In each sweep along an allowed plan no incoming list has a certain value, and every incoming value and every sum is within maxLlr × 1024.
+pub sums-bound : (n : ℕ) → n ≤ 10 → (plan mask : List ℕ) → Allowed n plan mask → (L : List Soft) → SmallAll n maxLlr L → (k : ℕ)
     → InRange plan n 1 mask (sweeps (λ T. walk plan n 1 mask T L) k (start n mask)) L
 sums-bound n h plan mask A L S k =
-    in-range plan n 1 mask 32767 (sweeps (λ T. walk plan n 1 mask T L) k (start n mask)) L (room n h) (allowed-cuts n plan mask A) S
-    (held-sweeps plan n mask 32767 L (allowed-cuts n plan mask A) S k (start n mask) (within-held plan n 1 32767 (start n mask) (within-start n 32767 mask)))
+    in-range plan n 1 mask maxLlr (sweeps (λ T. walk plan n 1 mask T L) k (start n mask)) L (room n h) (allowed-cuts n plan mask A) S
+    (held-sweeps plan n mask maxLlr L (allowed-cuts n plan mask A) S k (start n mask) (within-held plan n 1 maxLlr (start n mask) (within-start n maxLlr mask)))
 
 -- So is LLR plus soft.
-pub decision-bound : (n : ℕ) → n ≤ 10 → (mask : List ℕ) (L : List Soft) → SmallAll n 32767 L → (k j : ℕ) → j < 2 ^ n → Under limit (plus (L at j) (scan n mask L k at j))
+pub decision-bound : (n : ℕ) → n ≤ 10 → (mask : List ℕ) (L : List Soft) → SmallAll n maxLlr L → (k j : ℕ) → j < 2 ^ n → Under limit (plus (L at j) (scan n mask L k at j))
 decision-bound n h mask L S k j l =
     under-mono (plus (L at j) (scan n mask L k at j)) (cap-limit n h)
-    (under-plus 32767 (cap n 32767) (L at j) (scan n mask L k at j) (S j l) (soft-under n mask L S k j l))
+    (under-plus maxLlr (cap n maxLlr) (L at j) (scan n mask L k at j) (S j l) (soft-under n mask L S k j l))
 
 -- The limit, and twice the limit, fit in 32 bits with the sign, below the mark.
 pub limit-fits : 2 * limit < 2147483647

@@ -98,15 +98,15 @@ tag SPC = 3
 tag type-I = 4
 tag type-III = 5
 
-abbrev pub isKind : Kind → Option Kind → Bool
-isKind k none = false
-isKind k (some j) = eqb (tag k) (tag j)
-
 -- the place of a kind in a list of kinds
 abbrev pub placeIn : List Kind → Kind → ℕ
 placeIn [] k = 0
-placeIn (j ∷ js) k = cond (isKind k (some j)) 0 (suc (placeIn js k))
+placeIn (j ∷ js) k = cond (eqb (tag j) (tag k)) 0 (suc (placeIn js k))
 
 -- the place of a kind in the table's order
 abbrev pub row : Kind → ℕ
 row k = placeIn order k
+
+abbrev pub isKind : Kind → Option Kind → Bool
+isKind k none = false
+isKind k (some j) = eqb (row k) (row j)

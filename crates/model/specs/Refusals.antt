@@ -7,7 +7,7 @@ use lib.IntN.{ℤ, pos, natAbs}
 use lib.ListN.{length, replicate}
 use lib.Ieee.{Float}
 use Rattle.model.specs.Lists.{atMost, over}
-use Rattle.model.specs.Soft.{finite, wordOf}
+use Rattle.model.specs.Soft.{finite, maxLlr, wordOf}
 use Rattle.model.specs.Samples.{isVariance, allReadable, llrsOf}
 use Rattle.model.specs.Encoding.{maxMask, unfrozen, encode}
 use Rattle.model.specs.Scan.{Decoded, decodeScan}
@@ -38,10 +38,13 @@ exponent N = exponentTo 10 N
 abbrev pub maxSweeps : ℕ
 maxSweeps = 16
 
--- LLRs within ±32767; of 16-bit LLRs only -32768 is not
+-- whether a number is an LLR; of 16-bit numbers only -32768 is not
+abbrev pub isLlr : ℤ → Bool
+isLlr z = leb (natAbs z) maxLlr
+
 unfoldable pub llrsInRange : List ℤ → Bool
 llrsInRange [] = true
-llrsInRange (z ∷ zs) = leb (natAbs z) 32767 && llrsInRange zs
+llrsInRange (z ∷ zs) = isLlr z && llrsInRange zs
 
 -- the number of mask bytes or samples is an allowed N
 abbrev pub row-1 : ℕ → Test

@@ -47,6 +47,10 @@ plus certain b = certain
 plus (finite a) certain = certain
 plus (finite a) (finite b) = finite (a +ℤ b)
 
+-- an LLR is within ± this
+abbrev pub maxLlr : ℕ
+maxLlr = 32767
+
 -- 2147483647 is the mark "certain"
 abbrev pub mark : ℕ
 mark = 2147483647

@@ -16,25 +16,10 @@ use Rattle.model.specs.Kinds.{Kind, rate-0, rate-1, REP, SPC, type-I, type-III,
 use Rattle.model.specs.Plans.{isCut, noCut, cutsOf, counts, plannerPlan}
 use Rattle.model.proofs.Lists.{cond-both, true-T, and-l, and-r}
 use Rattle.model.proofs.Planner.{Chosen, planner-chosen}
-use Rattle.planner.specs.Writing.{rowOf, noted, counted, Free}
+use Rattle.kinds.specs.Runs.{rowOf}
+use Rattle.kinds.proofs.Table.{row-low}
+use Rattle.planner.specs.Writing.{noted, counted, Free}
 use Rattle.planner.proofs.Written.{zeros-at, take-tabulate}
-
-row-low : (k : Kind) → row k < length order
-row-low rate-0 = omega arith
-row-low rate-1 = omega arith
-row-low REP = omega arith
-row-low SPC = omega arith
-row-low type-I = omega arith
-row-low type-III = omega arith
-
--- a row of the table is a kind's
-pub row-some : (o : Option Kind) → rowOf o < length order → isSome o ≡ true
-row-some none h = absurd (omega arith)
-row-some (some k) h = refl
-
-pub row-none : (o : Option Kind) → length order ≤ rowOf o → isSome o ≡ false
-row-none none h = refl
-row-none (some k) h = absurd (omega (arith, row-low k))
 
 -- ---- one more of a kind
 noted-at : (k j : Kind) (cs : List ℕ) → length cs ≡ length order → (b : Bool) → eqb (row k) (row j) ≡ b

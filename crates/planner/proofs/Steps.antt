@@ -1,16 +1,19 @@
 -- What the planner's recursion does at a node, in the terms of the code. Assumes nothing.
 use Prim.Native.Nat.{ℕ, zero, suc, _+_, _*_, _-_, _/_, _^_, _<_, _≤_}
 use native.Mathlib.Omega.{arith}
-use mathlib.Core.Path.{_≡_, ap, _∙_}
+use mathlib.Core.Path.{_≡_, sym, ap, _∙_}
 use mathlib.Core.Bool.{true, false}
 use mathlib.Core.List.{List}
+use borrow.Author.Tests.{lt-ltb, le-ltb}
 use lib.ListN.{length, take, drop, set}
 use Rattle.model.specs.Kinds.{order, kindOf, isSome}
 use Rattle.model.proofs.Lists.{take-left}
 use Rattle.plans.specs.Nodes.{Node}
-use Rattle.planner.specs.Writing.{rowOf, noted, written, counted, Free}
+use Rattle.kinds.specs.Runs.{rowOf}
+use Rattle.kinds.proofs.Table.{is-row}
+use Rattle.planner.specs.Writing.{noted, written, counted, Free}
 use Rattle.plans.proofs.Parts.{half, twice, at-zero, at-suc}
-use Rattle.planner.proofs.Counted.{row-some, row-none, counted-le}
+use Rattle.planner.proofs.Counted.{counted-le}
 
 -- both results of the recursion
 abbrev Both : ℕ → ℕ → List ℕ → List ℕ → List ℕ → List ℕ → List ℕ → Type 0
@@ -37,12 +40,12 @@ module _ {t p l i : ℕ} (mask plan cs : List ℕ) (h : Node t p (length mask) l
   row-here = r ∙ ap (λ (m : ℕ). rowOf (kindOf m mask)) (h .size)
 
   none-here : length order ≤ i → isSome (kindOf (2 ^ t) mask) ≡ false
-  none-here e = row-none (kindOf (2 ^ t) mask) (omega (arith, row-here))
+  none-here e = sym (is-row (kindOf (2 ^ t) mask)) ∙ le-ltb (rowOf (kindOf (2 ^ t) mask)) (length order) (omega (arith, row-here))
 
   -- a node of a kind
   pub kind-node : i < length order → Both t p mask plan cs (set plan p 1) (noted i cs)
   kind-node e =
-      rw row-here (some-both p mask plan cs t (row-some (kindOf (2 ^ t) mask) (omega (arith, row-here))))
+      rw row-here (some-both p mask plan cs t (sym (is-row (kindOf (2 ^ t) mask)) ∙ lt-ltb (rowOf (kindOf (2 ^ t) mask)) (length order) (omega (arith, row-here))))
 
   -- a leaf of none
   pub leaf-node : length order ≤ i → t ≡ 0 → Both t p mask plan cs plan cs

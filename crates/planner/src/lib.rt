@@ -1,7 +1,6 @@
 // The planner.
 // The recursion goes down the tree with a node's stage t, its number p, and its part of the mask: 2p and 2p + 1 are its children.
-use inputs::exponent_of;
-use inputs::mask_bytes;
+use inputs::mask_tests;
 use kinds::KINDS;
 use kinds::kind_of;
 use kinds::table_row;
@@ -62,18 +61,18 @@ pub fn plan_mask(mask: &[u8], plan: &mut [u8]) -> Planned
     ensures { λ _. ⌜ now (plan .exit) ≡ planBytes (now (mask .entry)) (now (plan .entry)) ⌝ }
 {
     let mut counts = [0u32; 6];
-    let t = exponent_of(mask.len());
-    if t == 0 {
-        return Planned { number: 1, counts };
-    }
-    if !mask_bytes(mask) {
-        return Planned { number: 2, counts };
+    let masked = mask_tests(mask);
+    if masked.number != 0 {
+        return Planned {
+            number: masked.number,
+            counts,
+        };
     }
     let size = 2 * mask.len();
     if plan.len() < size {
         return Planned { number: 11, counts };
     }
     zero_front(plan, size);
-    write_plan(mask, plan, &mut counts, t, 1);
+    write_plan(mask, plan, &mut counts, masked.stage, 1);
     Planned { number: 0, counts }
 }

@@ -9,33 +9,24 @@ use borrow.Author.Tests.{eq-eqb, ne-eqb}
 use lib.ListN.{length, take, drop, getD, length-drop}
 use lib.Pow.{pow-pos, pow-mono}
 use lib.Seq.{length-take-le, take-length, take-take, take-add, drop-drop, drop-at}
-use Rattle.model.specs.Kinds.{Kind, rate-0, rate-1, REP, SPC, type-I, type-III, kindOf, isSome}
+use Rattle.model.specs.Kinds.{Kind, kindOf, isSome}
 use Rattle.model.specs.Plans.{isCut, isRate01, cutCycles, edgeCycles, cycles}
 use Rattle.model.proofs.Lists.{cond-both}
-use Rattle.model.proofs.Cycles.{cycles-cut}
+use Rattle.model.proofs.Cycles.{cycles-cut, own-bound}
 use Rattle.plans.specs.Nodes.{part, Span, wellMet, cutsMet, Costs}
 use Rattle.plans.proofs.Parts.{twice, half, at-zero, at-suc, place-l, place-r}
 use Rattle.plans.proofs.Cuts.{met-small}
 
 -- ---- bounds
-cut-small : (o : Option Kind) → cutCycles o ≤ 2
-cut-small none = omega arith
-cut-small (some rate-0) = omega arith
-cut-small (some rate-1) = omega arith
-cut-small (some REP) = omega arith
-cut-small (some SPC) = omega arith
-cut-small (some type-I) = omega arith
-cut-small (some type-III) = omega arith
-
 edge-small : (plan : List ℕ) (m p : ℕ) (mask : List ℕ) → edgeCycles plan m p mask ≤ 2
 edge-small plan m p mask = cond-both (λ n. n ≤ 2) (isCut plan p && isRate01 (kindOf m mask)) (omega arith) (omega arith)
 
 cycles-small : (plan : List ℕ) (t p : ℕ) (mask : List ℕ) → cycles plan t p mask + 6 ≤ 8 * 2 ^ t
 unfolding cycles
-cycles-small plan zero p mask = omega (arith, cut-small (kindOf 1 mask))
+cycles-small plan zero p mask = omega (arith, own-bound 1 mask (omega arith))
 cycles-small plan (suc t) p mask =
     cond-both (λ n. n + 6 ≤ 8 * 2 ^ suc t) (isCut plan p)
-    (omega (arith, cut-small (kindOf (2 ^ suc t) mask), pow-pos t))
+    (omega (arith, own-bound (2 ^ suc t) mask (pow-pos (suc t)), pow-pos t))
     (omega
     (arith, cycles-small plan t (2 * p) (take (2 ^ t) mask), cycles-small plan t (2 * p + 1) (drop (2 ^ t) mask), edge-small plan (2 ^ t) (2 * p) (take (2 ^ t) mask), edge-small plan (2 ^ t) (2 * p + 1) (drop (2 ^ t) mask)))
 

@@ -3,18 +3,18 @@ use Prim.Native.Nat.{ℕ, _*_, _^_, _≤_}
 use native.Mathlib.Omega.{arith}
 use mathlib.Core.Path.{_≡_, refl, sym, ap₂, _∙_}
 use mathlib.Core.Bool.{Bool, true, false, cond, _&&_}
-use mathlib.Core.List.{List, _∷_}
+use mathlib.Core.List.{List, [], _∷_}
 use borrow.Author.Tests.{ne-eqb}
 use lib.Dec.{T, eqb, eqb→eq}
 use lib.ListN.{length, getD}
 use lib.Pow.{pow-mono}
 use Rattle.model.specs.Lists.{atMost}
-use Rattle.model.specs.Encoding.{maxMask}
 use Rattle.model.specs.Plans.{isPlan, oneCut, cutsOfKinds, wellCut, Allowed, cycles}
 use Rattle.model.specs.Refusals.{Test, refusal, exponent, row-5, row-6, checkNumber, checkCycles}
 use Rattle.model.proofs.Lists.{true-T, and-l, and-r}
 use Rattle.model.proofs.Paths.{wellCut-test}
-use Rattle.model.proofs.Refusals.{exponent-power}
+use Rattle.inputs.specs.Tests.{MaskTests}
+use Rattle.inputs.proofs.Rows.{mask-refused, mask-accepted}
 use Rattle.plans.specs.Nodes.{Span, Costs, byteSum}
 use Rattle.plans.specs.Faults.{faultNumber, faultCycles}
 use Rattle.plans.proofs.Parts.{root}
@@ -97,25 +97,17 @@ module _ (n : ℕ) (mask plan : List ℕ) where
       go true false = refl
       go false b = refl
 
--- the stage that is found is the mask's
-pub staged : {t : ℕ} (mask : List ℕ) → t ≡ exponent (length mask) → (t ≡ 0 → ⊥) → (length mask ≡ 2 ^ t) × (t ≤ 10)
-staged {t} mask s e = rw s (exponent-power (length mask) (λ z. e (s ∙ z)))
+-- ---- the check's answers: rows 5 and 6 follow rows 1 and 2
+module _ {mask : List ℕ} {number stage : ℕ} (plan : List ℕ) (m : MaskTests mask number stage) where
+  pub check-refused : (number ≡ 0 → ⊥) → (number ≡ checkNumber mask plan) × (0 ≡ checkCycles mask plan)
+  unfolding checkNumber checkCycles
+  check-refused h =
+      let is : checkNumber mask plan ≡ number = mask-refused m (row-5 (exponent (length mask)) plan ∷ row-6 (exponent (length mask)) plan mask ∷ []) h in
+      (sym is, rw (is, ne-eqb number 0 h))
 
-pub sized : {t : ℕ} (mask : List ℕ) → t ≡ exponent (length mask) → (t ≡ 0 → ⊥) → eqb (exponent (length mask)) 0 ≡ false
-sized mask s e = ne-eqb (exponent (length mask)) 0 (λ z. e (s ∙ z))
-
-module _ {t : ℕ} (mask plan : List ℕ) (s : t ≡ exponent (length mask)) where
-  pub check-1 : t ≡ 0 → (1 ≡ checkNumber mask plan) × (0 ≡ checkCycles mask plan)
-  unfolding checkNumber checkCycles refusal
-  check-1 e = let z : exponent (length mask) ≡ 0 = sym s ∙ e in (rw z, rw z)
-
-  module _ (e : t ≡ 0 → ⊥) where
-    pub check-2 : atMost maxMask mask ≡ false → (2 ≡ checkNumber mask plan) × (0 ≡ checkCycles mask plan)
-    unfolding checkNumber checkCycles refusal
-    check-2 b = (rw (sized mask s e, b), rw (sized mask s e, b))
-
-    pub check-fault : {f c : ℕ} → atMost maxMask mask ≡ true → f ≡ faultNumber t mask plan → c ≡ faultCycles t mask plan
-        → (f ≡ checkNumber mask plan) × (c ≡ checkCycles mask plan)
-    unfolding checkNumber checkCycles refusal faultNumber faultCycles
-    check-fault b p q =
-        (p ∙ rw (s, sized mask s e, b), q ∙ rw (s, sized mask s e, b))
+  pub check-fault : {f c : ℕ} → number ≡ 0 → f ≡ faultNumber stage mask plan → c ≡ faultCycles stage mask plan → (f ≡ checkNumber mask plan) × (c ≡ checkCycles mask plan)
+  unfolding checkNumber checkCycles faultNumber faultCycles
+  check-fault h p q =
+      let is : checkNumber mask plan ≡ faultNumber (exponent (length mask)) mask plan = mask-accepted m (row-5 (exponent (length mask)) plan ∷ row-6 (exponent (length mask)) plan mask ∷ []) h in
+      let e : stage ≡ exponent (length mask) = m .passed h .stage-is in
+      (p ∙ sym (rw e is), q ∙ rw (is, e))

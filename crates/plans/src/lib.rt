@@ -2,8 +2,7 @@
 // A recursion goes down the tree with a node's stage t, its number p, and its positions of the mask: 2p and 2p + 1 are its children.
 use inputs::at_most;
 use inputs::both;
-use inputs::exponent_of;
-use inputs::mask_bytes;
+use inputs::mask_tests;
 use kinds::KINDS;
 use kinds::Kind;
 use kinds::kind_of;
@@ -156,18 +155,12 @@ pub fn fault_of(mask: &[u8], plan: &[u8], t: usize) -> Checked
 pub fn check_plan(mask: &[u8], plan: &[u8]) -> Checked
     ensures { λ r. ⌜ (r .number ≡ checkNumber (now (mask .entry)) (now (plan .entry))) × (r .cycles ≡ checkCycles (now (mask .entry)) (now (plan .entry))) ⌝ }
 {
-    let t = exponent_of(mask.len());
-    if t == 0 {
+    let masked = mask_tests(mask);
+    if masked.number != 0 {
         return Checked {
-            number: 1,
+            number: masked.number,
             cycles: 0,
         };
     }
-    if !mask_bytes(mask) {
-        return Checked {
-            number: 2,
-            cycles: 0,
-        };
-    }
-    fault_of(mask, plan, t)
+    fault_of(mask, plan, masked.stage)
 }

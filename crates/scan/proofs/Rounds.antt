@@ -13,7 +13,7 @@ use borrow.Author.Tests.{ne-eqb}
 use lib.ListN.{length, getD, List·getD-map}
 use lib.Seq.{take-all}
 use Rattle.model.specs.Lists.{tabulate}
-use Rattle.model.specs.Soft.{Soft, finite, _at_, mark, wordOf}
+use Rattle.model.specs.Soft.{Soft, finite, _at_, mark, wordOf, maxLlr}
 use Rattle.model.specs.Scan.{Tree, message, start, sweeps, scan}
 use Rattle.model.specs.Plans.{Stays, wellCut, walk}
 use Rattle.model.specs.Bounds.{Small, SmallAll, Held}
@@ -61,10 +61,10 @@ module _ {plan mask : List ℕ} {N t : ℕ} {first : Bool} {w : List ℤ} (r : R
     planned = omega (arith, allowed-length t plan mask (r .allowed), r .size);
     masked = omega (arith, r .positions);
     cuts = subst (λ (m : List ℕ). T (wellCut plan t 1 m)) (sym the-mask) (allowed-cuts t plan mask (r .allowed));
-    bound = 32767;
+    bound = maxLlr;
     limited = let m : 2 ^ t ≤ 1024 = pow-mono (r .low) in omega arith;
     small = λ _. r .small;
-    held = subst (λ (m : List ℕ). Held plan t 1 32767 (begun first plan t 1 m (treeAt N w t 0))) (sym the-mask) (r .held);
+    held = subst (λ (m : List ℕ). Held plan t 1 maxLlr (begun first plan t 1 m (treeAt N w t 0))) (sym the-mask) (r .held);
   }
 
   abbrev P₀ : Tree
@@ -121,8 +121,8 @@ ready-after {plan} {mask} {N} {t} {k} {first} {w} {v} r s =
       room = omega (arith, r .room, s .long);
       positions = r .positions;
       allowed = r .allowed;
-      small = subst (SmallAll t 32767) (sym (soft-cong w v (N * (t + 1)) (2 ^ t) (λ i lt. s .list i (omega (arith, r .size))))) (r .small);
-      held = subst (Held plan t 1 32767) (sym (s .tree)) (held-sweeps plan t mask 32767 (soft w (N * (t + 1)) N) (allowed-cuts t plan mask (r .allowed)) (subst (SmallAll t 32767) (sym e) (r .small)) k (begun first plan t 1 mask (treeAt N w t 0)) (r .held));
+      small = subst (SmallAll t maxLlr) (sym (soft-cong w v (N * (t + 1)) (2 ^ t) (λ i lt. s .list i (omega (arith, r .size))))) (r .small);
+      held = subst (Held plan t 1 maxLlr) (sym (s .tree)) (held-sweeps plan t mask maxLlr (soft w (N * (t + 1)) N) (allowed-cuts t plan mask (r .allowed)) (subst (SmallAll t maxLlr) (sym e) (r .small)) k (begun first plan t 1 mask (treeAt N w t 0)) (r .held));
     }
 
 -- ---- the words after k sweeps from the first on
@@ -173,8 +173,8 @@ module _ (plan mask : List ℕ) (llrs : List ℤ) (count N t : ℕ) (out w w₁ 
       ∙ soft-fin (word llrs k) (λ e. let f : natAbs (word llrs k) ≡ mark = ap natAbs e in omega (arith, can .small k (omega (arith, can .values)))))
       ∙ tabulate-map finite llrs (pos 0)
 
-  small-list : SmallAll t 32767 (map finite llrs)
-  small-list k lt = subst (Small 32767) (sym (List·getD-map finite llrs k (pos 0))) (can .small k (omega (arith, can .size)))
+  small-list : SmallAll t maxLlr (map finite llrs)
+  small-list k lt = subst (Small maxLlr) (sym (List·getD-map finite llrs k (pos 0))) (can .small k (omega (arith, can .size)))
 
   pub ready : Ready plan mask N t true w₁
   ready = record {
@@ -183,8 +183,8 @@ module _ (plan mask : List ℕ) (llrs : List ℤ) (count N t : ℕ) (out w w₁ 
     room = omega (arith, can .room, long₁);
     positions = can .positions;
     allowed = can .allowed;
-    small = subst (SmallAll t 32767) (sym (ap (soft w₁ (N * (t + 1))) (sym (can .size)) ∙ loaded)) small-list;
-    held = overlaid-held plan t 1 32767 (start t mask) (treeAt N w₁ t 0) (within-held plan t 1 32767 (start t mask) (within-start t 32767 mask));
+    small = subst (SmallAll t maxLlr) (sym (ap (soft w₁ (N * (t + 1))) (sym (can .size)) ∙ loaded)) small-list;
+    held = overlaid-held plan t 1 maxLlr (start t mask) (treeAt N w₁ t 0) (within-held plan t 1 maxLlr (start t mask) (within-start t maxLlr mask));
   }
 
   module _ (w₂ : List ℤ) (s : Swept plan mask N t true count w₁ w₂) where

@@ -7,6 +7,7 @@ use Prim.Native.Nat.{ℕ, zero, suc, _+_, _*_, _^_, _≤_, _<_}
 use lib.IntN.{ℤ, natAbs}
 use lib.Dec.{T}
 use lib.ListN.{length, take, drop}
+use Rattle.model.specs.Soft.{maxLlr}
 use Rattle.model.specs.Scan.{Tree, leaf, node, message, left, right, start, sweeps}
 use Rattle.model.specs.Kinds.{kindOf}
 use Rattle.model.specs.Plans.{isCut, isRate01, wellCut, put, walk, Stays, Allowed}
@@ -75,8 +76,8 @@ pub record Ready (plan mask : List ℕ) (N t : ℕ) (first : Bool) (w : List ℤ
   pub room : N * (t + 3) ≤ length w
   pub positions : length mask ≡ N
   pub allowed : Allowed t plan mask
-  pub small : SmallAll t 32767 (soft w (N * (t + 1)) (2 ^ t))
-  pub held : Held plan t 1 32767 (begun first plan t 1 mask (treeAt N w t 0))
+  pub small : SmallAll t maxLlr (soft w (N * (t + 1)) (2 ^ t))
+  pub held : Held plan t 1 maxLlr (begun first plan t 1 mask (treeAt N w t 0))
 
 -- the words in which the incoming lists of the nodes below the root are made: N of them, past the root's own list.
 -- What a sweep leaves there is open; it reads no such word before it has stored it, so what they held has no influence on another word.
@@ -103,7 +104,7 @@ pub record Decodable (plan mask : List ℕ) (llrs : List ℤ) (count N t out wor
   pub low : t ≤ 10
   pub positions : length mask ≡ N
   pub values : length llrs ≡ N
-  pub small : (k : ℕ) → k < N → natAbs (word llrs k) ≤ 32767
+  pub small : (k : ℕ) → k < N → natAbs (word llrs k) ≤ maxLlr
   pub allowed : Allowed t plan mask
   pub some-sweep : 0 < count
   pub answer : N ≤ out

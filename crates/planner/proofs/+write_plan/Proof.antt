@@ -4,7 +4,7 @@ use native.Mathlib.Omega.{arith}
 use lib.ListN.{length-set}
 use lib.Pow.{pow-pos}
 use lib.Seq.{length-take-le}
-use Rattle.planner.specs.Writing.{rowOf}
+use Rattle.kinds.specs.Runs.{rowOf}
 use Rattle.plans.proofs.Parts.{inside, place-r, node-l, node-r}
 use Rattle.planner.proofs.Steps.{kind-node, leaf-node, down-node, free-l, free-r, node-in}
 use borrow.Author.Needs.{needs}
@@ -15,7 +15,7 @@ use Rattle.planner.proofs.write_plan.Reads as write-plan
 use Rattle.planner.proofs.write_plan.Kinds as write-plan-kinds
 use Rattle.planner.proofs.+write_plan.Lts-write_plan as write-plan-lts
 use Rattle.kinds.proofs.kind_of.Reads as kind-of-reads
-use Rattle.planner.proofs.row_of.Reads as row-of-reads
+use Rattle.kinds.proofs.table_row.Reads as table-row-reads
 use Rattle.planner.proofs.+write_plan.{statement}
 use Rattle.planner.proofs.+write_plan.Tie.{close}
 
@@ -32,14 +32,14 @@ write-plan-below t =
 
 -- what the callees ask and ensure
 abbrev around : ℕ → write-plan-lts.Claims
-around t = (kind-of-reads.Asked, kind-of-reads.Learnt, row-of-reads.Asked, row-of-reads.Learnt, write-plan-below t, write-plan.Post)
+around t = (kind-of-reads.Asked, kind-of-reads.Learnt, table-row-reads.Asked, table-row-reads.Learnt, write-plan-below t, write-plan.Post)
 
 module _ (t : ℕ) where
   kind-of-requires : write-plan-lts.Need-kind-of-requires (around t) (write-plan-at t) write-plan.Post
   kind-of-requires c κs = tt
 
-  row-of-requires : write-plan-lts.Need-row-of-requires (around t) (write-plan-at t) write-plan.Post
-  row-of-requires c κs = tt
+  table-row-requires : write-plan-lts.Need-table-row-requires (around t) (write-plan-at t) write-plan.Post
+  table-row-requires c κs = tt
 
   slice-write-plan : write-plan-lts.Need-slice-write-plan (around t) (write-plan-at t) write-plan.Post
   slice-write-plan c = inside (c .before .before .before .before .before .pre .1 .0 .place)
@@ -53,7 +53,7 @@ module _ (t : ℕ) where
   add-counts : write-plan-lts.Need-add-counts (around t) (write-plan-at t) write-plan.Post
   add-counts c =
       let s = c .before .before .before .before .before .before in
-      omega (arith, s .pre .1 .1 .free (c .before .before .row-of .result), pow-pos (s .args .t))
+      omega (arith, s .pre .1 .1 .free (c .before .before .table-row .result .place), pow-pos (s .args .t))
 
   element-write-counts : write-plan-lts.Need-element-write-counts (around t) (write-plan-at t) write-plan.Post
   element-write-counts c = c .before .if1 .taken
@@ -65,13 +65,13 @@ module _ (t : ℕ) where
   returns c =
       let d = c .before in
       let s = d .before .before .before .before .before in
-      kind-node (s .args .mask .now) (s .args .plan .now) (s .args .counts .now) (s .pre .1 .0) (d .before .row-of .ensures ∙ ap rowOf (d .before .before .kind-of .ensures)) (d .if1 .taken)
+      kind-node (s .args .mask .now) (s .args .plan .now) (s .args .counts .now) (s .pre .1 .0) (d .before .table-row .ensures .0 ∙ ap rowOf (d .before .before .kind-of .ensures)) (d .if1 .taken)
 
   returns-2 : write-plan-lts.Need-returns-2 (around t) (write-plan-at t) write-plan.Post
   returns-2 c =
       let d = c .before in
       let s = d .before .before .before .before .before in
-      leaf-node (s .args .mask .now) (s .args .plan .now) (s .args .counts .now) (s .pre .1 .0) (d .before .row-of .ensures ∙ ap rowOf (d .before .before .kind-of .ensures)) (d .if1 .left) (c .if2 .taken)
+      leaf-node (s .args .mask .now) (s .args .plan .now) (s .args .counts .now) (s .pre .1 .0) (d .before .table-row .ensures .0 ∙ ap rowOf (d .before .before .kind-of .ensures)) (d .if1 .left) (c .if2 .taken)
 
   sub-u : write-plan-lts.Need-sub-u (around t) (write-plan-at t) write-plan.Post
   sub-u c = omega arith
@@ -114,13 +114,13 @@ module _ (t : ℕ) where
   returns-3 c =
       let d = c .before .before .before .before .before .before .before .before .before .before .before .before in
       let s = d .before .before .before .before .before .before in
-      down-node (s .args .mask .now) (s .args .plan .now) (s .args .counts .now) (s .pre .1 .0) (d .before .before .row-of .ensures ∙ ap rowOf (d .before .before .before .kind-of .ensures)) (d .before .if1 .left) (d .if2 .left)
+      down-node (s .args .mask .now) (s .args .plan .now) (s .args .counts .now) (s .pre .1 .0) (d .before .before .table-row .ensures .0 ∙ ap rowOf (d .before .before .before .kind-of .ensures)) (d .before .if1 .left) (d .if2 .left)
       (c .before .before .before .before .before .before .before .before .write-plan .ensures) (c .before .before .write-plan2 .ensures)
 
 pub +write-plan-spec : {M : Type 1} → statement M
 +write-plan-spec = close μ-write-plan λ t. write-plan-lts.spec (around t) (write-plan-at t) write-plan.Post
     (kind-of-requires t)
-    (row-of-requires t)
+    (table-row-requires t)
     (slice-write-plan t)
     (mul-counts t)
     (element-copy-out-counts t)

@@ -1,93 +1,30 @@
--- `plans::cut_cost` meets its contract, kind by kind. Assumes nothing.
+-- `plans::cut_cost` meets its contract: a row of the table is a kind's. Assumes nothing.
+use mathlib.Core.Path.{refl, ap, _∙_}
+use Prim.Native.Nat.{ℕ}
+use mathlib.Core.Bool.{Bool, cond}
+use lib.Dec.{ltb}
+use lib.ListN.{length}
+use Rattle.model.specs.Kinds.{order}
+use Rattle.kinds.specs.Runs.{kindNamed}
+use Rattle.kinds.proofs.Table.{is-row}
 use borrow.Author.Needs.{needs}
 use Rattle.plans.proofs.cut_cost.Statement.{statement}
 use Rattle.plans.proofs.cut_cost.Tie as tie
 
-enum-told : tie.Need-enum-told
-enum-told c = search needs
+table-row-requires : tie.Need-table-row-requires
+table-row-requires c κs = search needs
 
-cut-row-requires : tie.Need-cut-row-requires
-cut-row-requires c κs = search needs
-
-enum-told-2 : tie.Need-enum-told-2
-enum-told-2 c = search needs
-
-cut-row-requires-2 : tie.Need-cut-row-requires-2
-cut-row-requires-2 c κs = search needs
-
-enum-told-3 : tie.Need-enum-told-3
-enum-told-3 c = search needs
-
-cut-row-requires-3 : tie.Need-cut-row-requires-3
-cut-row-requires-3 c κs = search needs
-
-enum-told-4 : tie.Need-enum-told-4
-enum-told-4 c = search needs
-
-cut-row-requires-4 : tie.Need-cut-row-requires-4
-cut-row-requires-4 c κs = search needs
-
-enum-told-5 : tie.Need-enum-told-5
-enum-told-5 c = search needs
-
-cut-row-requires-5 : tie.Need-cut-row-requires-5
-cut-row-requires-5 c κs = search needs
-
-enum-told-6 : tie.Need-enum-told-6
-enum-told-6 c = search needs
-
-cut-row-requires-6 : tie.Need-cut-row-requires-6
-cut-row-requires-6 c κs = search needs
-
-enum-told-7 : tie.Need-enum-told-7
-enum-told-7 c = search needs
-
-cut-row-requires-7 : tie.Need-cut-row-requires-7
-cut-row-requires-7 c κs = search needs
+edge-cycles-requires : tie.Need-edge-cycles-requires
+edge-cycles-requires c κs = search needs
 
 returns : tie.Need-returns
-returns c = search needs
-
-returns-2 : tie.Need-returns-2
-returns-2 c = search needs
-
-returns-3 : tie.Need-returns-3
-returns-3 c = search needs
-
-returns-4 : tie.Need-returns-4
-returns-4 c = search needs
-
-returns-5 : tie.Need-returns-5
-returns-5 c = search needs
-
-returns-6 : tie.Need-returns-6
-returns-6 c = search needs
-
-returns-7 : tie.Need-returns-7
-returns-7 c = search needs
+returns c =
+    let row = c .before .before .table-row .ensures in (
+      ap (λ (n : ℕ). ltb n (length order)) (row .0) ∙ is-row (kindNamed (c .before .before .before .args .k)),
+      refl,
+      row .1,
+      c .edge-cycles .ensures ∙ ap (λ (b : Bool). cond b 0 2) (row .2),
+    )
 
 pub cut-cost-spec : {M : Type 1} → statement M
-cut-cost-spec =
-    tie.close
-    (tie.spec
-    enum-told
-    cut-row-requires
-    enum-told-2
-    cut-row-requires-2
-    enum-told-3
-    cut-row-requires-3
-    enum-told-4
-    cut-row-requires-4
-    enum-told-5
-    cut-row-requires-5
-    enum-told-6
-    cut-row-requires-6
-    enum-told-7
-    cut-row-requires-7
-    returns
-    returns-2
-    returns-3
-    returns-4
-    returns-5
-    returns-6
-    returns-7)
+cut-cost-spec = tie.close (tie.spec table-row-requires edge-cycles-requires returns)
