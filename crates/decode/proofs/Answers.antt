@@ -104,7 +104,7 @@ module _ (mask plan : List ℕ) (k : ℕ) (llrs soft : List ℤ) (hard payload :
   pub room-is : {cycles t count : ℕ} → Passed mask plan k llrs cycles t → count ≡ unfrozen mask
       → refusal (row-11 N (length soft) ∷ row-11 N (length hard) ∷ row-11 count (length payload) ∷ row-12 (N * (t + 3)) (length work) ∷ []) ≡ roomNumber
   room-is p e =
-      ap₂ (λ (x y : ℕ). refusal (row-11 N (length soft) ∷ row-11 N (length hard) ∷ row-11 x (length payload) ∷ row-12 (N * (y + 3)) (length work) ∷ [])) e (p .stage-is)
+      ap₂ (λ (x y : ℕ). refusal (row-11 N (length soft) ∷ row-11 N (length hard) ∷ row-11 x (length payload) ∷ row-12 (N * (y + 3)) (length work) ∷ [])) e (p .mask-passed .stage-is)
 
   -- ---- a refused call
   pub refused-answer : (number : ℕ) → (number ≡ 0 → ⊥) → number ≡ decodeNumber call → (r c d : ℕ) → r ≡ number → c ≡ 0 → d ≡ 0 → Answered call r c d
@@ -147,7 +147,7 @@ module _ (mask plan : List ℕ) (k : ℕ) (llrs soft : List ℤ) (hard payload :
       S = scan t mask (map finite llrs) k
 
       few : N ≤ 1024
-      few = let m : 2 ^ t ≤ 1024 = pow-mono (p .low) in omega (arith, p .sized)
+      few = let m : 2 ^ t ≤ 1024 = pow-mono (p .mask-passed .low) in omega (arith, p .mask-passed .sized)
 
       small : (j : ℕ) → natAbs (word llrs j) ≤ maxLlr
       small j = subst (Small maxLlr) (List·getD-map finite llrs j (pos 0)) (at-all j)
@@ -158,15 +158,15 @@ module _ (mask plan : List ℕ) (k : ℕ) (llrs soft : List ℤ) (hard payload :
       -- what the soft values' run requires
       pub decodable : Decodable plan mask llrs k N t (length soft) (length work)
       decodable = record {
-        size = p .sized;
-        low = p .low;
+        size = p .mask-passed .sized;
+        low = p .mask-passed .low;
         positions = refl;
         values = p .values;
         small = λ j _. small j;
         allowed = p .allowed;
         some-sweep = p .some-sweep;
         answer = soft-room;
-        room = subst (λ (m : ℕ). N * (m + 3) ≤ length work) (sym (p .stage-is)) work-room;
+        room = subst (λ (m : ℕ). N * (m + 3) ≤ length work) (sym (p .mask-passed .stage-is)) work-room;
       }
 
       module _ (soft′ : List ℤ) (es : soft′ ≡ stored soft 0 N (scan t mask (map finite llrs) k)) where
@@ -178,8 +178,8 @@ module _ (mask plan : List ℕ) (k : ℕ) (llrs soft : List ℤ) (hard payload :
 
         under : (j : ℕ) → j < N → Under limit (scan t mask (map finite llrs) k at j)
         under j lt =
-            under-mono (scan t mask (map finite llrs) k at j) (let c = cap-limit t (p .low) in omega arith)
-            (soft-under t mask (map finite llrs) (llrs-small t llrs (p .range)) k j (omega (arith, p .sized)))
+            under-mono (scan t mask (map finite llrs) k at j) (let c = cap-limit t (p .mask-passed .low) in omega arith)
+            (soft-under t mask (map finite llrs) (llrs-small t llrs (p .range)) k j (omega (arith, p .mask-passed .sized)))
 
         soft-place : (j : ℕ) → j < N → softOf (word soft′ j) ≡ scan t mask (map finite llrs) k at j
         soft-place j lt = ap softOf (word-at j lt) ∙ soft-word limit (scan t mask (map finite llrs) k at j) (omega arith) (under j lt)
@@ -196,12 +196,12 @@ module _ (mask plan : List ℕ) (k : ℕ) (llrs soft : List ℤ) (hard payload :
           omega (arith, small j),
           word-in limit (plus (softOf (word llrs j)) (softOf (word soft′ j))) (omega arith)
               (subst (Under limit) (sym (ap₂ plus (llr-place j) (soft-place j lt)))
-              (decision-bound t (p .low) mask (map finite llrs) (llrs-small t llrs (p .range)) k j (omega (arith, p .sized)))),
+              (decision-bound t (p .mask-passed .low) mask (map finite llrs) (llrs-small t llrs (p .range)) k j (omega (arith, p .mask-passed .sized)))),
         )
 
         pub readable : Readable mask llrs soft′ N (length hard) (length payload)
         readable = record {
-          length-allowed = λ e. p .not-zero (p .stage-is ∙ e);
+          length-allowed = λ e. p .mask-passed .not-zero (p .mask-passed .stage-is ∙ e);
           few = few;
           positions = refl;
           values = omega (arith, p .values);
@@ -220,15 +220,15 @@ module _ (mask plan : List ℕ) (k : ℕ) (llrs soft : List ℤ) (hard payload :
         decisions-are =
             tabulate-ext N (decisionAt llrs soft′) (λ j. hardBit (plus (map finite llrs at j) (scan t mask (map finite llrs) k at j)))
             (λ j lt. ap hardBit (ap₂ plus (llr-place j) (soft-place j lt)))
-            ∙ ap (λ (m : ℕ). tabulate m (λ j. hardBit (plus (map finite llrs at j) (scan t mask (map finite llrs) k at j)))) (p .sized)
+            ∙ ap (λ (m : ℕ). tabulate m (λ j. hardBit (plus (map finite llrs at j) (scan t mask (map finite llrs) k at j)))) (p .mask-passed .sized)
 
         u-is : transform (exponent N) (wordDecisions llrs soft′ N) ≡ transform t (hardWord t (map finite llrs) (scan t mask (map finite llrs) k))
-        u-is = ap₂ transform (sym (p .stage-is)) decisions-are
+        u-is = ap₂ transform (sym (p .mask-passed .stage-is)) decisions-are
 
         -- the definition's answer in the call's exponent
         answer-is : decodeAnswer call ≡ decodeScan t mask (map finite llrs) k
         unfolding decodeAnswer
-        answer-is = ap (λ (m : ℕ). decodeScan m mask (map finite llrs) k) (sym (p .stage-is))
+        answer-is = ap (λ (m : ℕ). decodeScan m mask (map finite llrs) k) (sym (p .mask-passed .stage-is))
 
         module _ (zero-is : 0 ≡ decodeNumber call) where
           accept : eqb (decodeNumber call) 0 ≡ true
@@ -238,7 +238,7 @@ module _ (mask plan : List ℕ) (k : ℕ) (llrs soft : List ℤ) (hard payload :
           unfolding decodeCycles decodeCheck decodeScan decided
           accepted-answer r c d er ec ed = record {
             number-is = er ∙ zero-is;
-            cycles-is = ec ∙ ap (λ (m : ℕ). k * m) (p .cycles-is ∙ ap (λ (m : ℕ). plans.cycles plan m 1 mask) (p .stage-is)) ∙ sym (rw accept);
+            cycles-is = ec ∙ ap (λ (m : ℕ). k * m) (p .cycles-is ∙ ap (λ (m : ℕ). plans.cycles plan m 1 mask) (p .mask-passed .stage-is)) ∙ sym (rw accept);
             check-is = ed ∙ ap (λ (v : List ℕ). bit (frozenZero mask v)) u-is ∙ sym (rw accept (ap (λ a. a .check) answer-is));
           }
 
@@ -250,11 +250,11 @@ module _ (mask plan : List ℕ) (k : ℕ) (llrs soft : List ℤ) (hard payload :
           unfolding decodeSoft decodeHard decodePayload decodeWork decodeScan decided
           accepted-written hard′ payload′ work′ eh ep ew = record {
             soft-is = es ∙ write-front (pos 0) soft N (λ i. wordOf (scan t mask (map finite llrs) k at i)) soft-room
-                ∙ ap (λ (l : List ℤ). over l soft) (by-places wordOf (scan t mask (map finite llrs) k) softZero N (scan-length t (p .not-zero) mask (map finite llrs) k ∙ sym (p .sized)))
+                ∙ ap (λ (l : List ℤ). over l soft) (by-places wordOf (scan t mask (map finite llrs) k) softZero N (scan-length t (p .mask-passed .not-zero) mask (map finite llrs) k ∙ sym (p .mask-passed .sized)))
                 ∙ sym (rw accept (ap (λ a. over (map wordOf (a .soft)) soft) answer-is));
             hard-is = eh ∙ ap (λ (l : List ℕ). over l hard) decisions-are ∙ sym (rw accept (ap (λ a. over (a .hard) hard) answer-is));
             payload-is = ep ∙ ap (λ (v : List ℕ). over (payloadOf mask v) payload) u-is ∙ sym (rw accept (ap (λ a. over (a .payload) payload) answer-is));
-            work-is = ew ∙ ap (λ (m : ℕ). write work 0 (N * (m + 3)) (λ i. pos 0)) (p .stage-is)
+            work-is = ew ∙ ap (λ (m : ℕ). write work 0 (N * (m + 3)) (λ i. pos 0)) (p .mask-passed .stage-is)
                 ∙ write-front (pos 0) work (N * (n + 3)) (λ i. pos 0) work-room
                 ∙ ap (λ (l : List ℤ). over l work) (same-places (N * (n + 3))) ∙ sym (rw accept);
           }
@@ -262,17 +262,17 @@ module _ (mask plan : List ℕ) (k : ℕ) (llrs soft : List ℤ) (hard payload :
 -- N(n + 3) words can be counted
 pub words-fit : {mask plan : List ℕ} {k : ℕ} {llrs : List ℤ} {cycles t : ℕ} → Passed mask plan k llrs cycles t → (t + 3 ≤ 13) × (length mask * (t + 3) ≤ 1024 * 13)
 words-fit {mask} {t = t} p =
-    let m : 2 ^ t ≤ 1024 = pow-mono (p .low) in
-    let few : length mask ≤ 1024 = omega (arith, p .sized) in
-    let low : t + 3 ≤ 13 = omega (arith, p .low) in
+    let m : 2 ^ t ≤ 1024 = pow-mono (p .mask-passed .low) in
+    let few : length mask ≤ 1024 = omega (arith, p .mask-passed .sized) in
+    let low : t + 3 ≤ 13 = omega (arith, p .mask-passed .low) in
     (low, mul-le-mul few low)
 
 pub mask-few : {mask plan : List ℕ} {k : ℕ} {llrs : List ℤ} {cycles t : ℕ} → Passed mask plan k llrs cycles t → length mask ≤ 1024
-mask-few p = let m : 2 ^ _ ≤ 1024 = pow-mono (p .low) in omega (arith, p .sized)
+mask-few p = let m : 2 ^ _ ≤ 1024 = pow-mono (p .mask-passed .low) in omega (arith, p .mask-passed .sized)
 
 -- the cycles of one sweep are few
 pub cycles-small : {mask plan : List ℕ} {k : ℕ} {llrs : List ℤ} {cycles t : ℕ} → Passed mask plan k llrs cycles t → cycles ≤ 4096
-cycles-small {mask} {plan} {k} {llrs} {cycles} {t} p = bound t (p .not-zero) (p .low) (p .allowed) (p .cycles-is)
+cycles-small {mask} {plan} {k} {llrs} {cycles} {t} p = bound t (p .mask-passed .not-zero) (p .mask-passed .low) (p .allowed) (p .cycles-is)
   where
     bound : (t : ℕ) → (t ≡ 0 → ⊥) → t ≤ 10 → plans.Allowed t plan mask → cycles ≡ plans.cycles plan t 1 mask → cycles ≤ 4096
     bound zero n l A e = absurd (n refl)

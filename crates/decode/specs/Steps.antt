@@ -1,12 +1,13 @@
 -- What the parts of a decode require and find. Assumes nothing.
 use mathlib.Core.Path.{_≡_}
 use mathlib.Core.List.{List, [], _∷_}
-use Prim.Native.Nat.{ℕ, _^_, _≤_, _<_}
+use Prim.Native.Nat.{ℕ, _≤_, _<_}
 use lib.Dec.{T}
 use lib.IntN.{ℤ}
 use lib.ListN.{length}
 use Rattle.model.specs.Plans.{Allowed}
 use Rattle.model.specs.Refusals.{refusal, row-1, row-2, row-3, row-4, row-5, row-6, row-7, exponent, maxSweeps, llrsInRange}
+use Rattle.inputs.specs.Tests.{MaskPassed}
 use Rattle.model.specs.Plans as plans
 
 -- ---- the tests of the inputs, 1 to 7
@@ -18,10 +19,7 @@ inputNumber mask plan sweeps llrs =
 
 -- what inputs that pass are
 pub record Passed (mask plan : List ℕ) (sweeps : ℕ) (llrs : List ℤ) (cycles stage : ℕ) : Type 0 where
-  pub stage-is : stage ≡ exponent (length mask)
-  pub not-zero : stage ≡ 0 → ⊥
-  pub sized : length mask ≡ 2 ^ stage
-  pub low : stage ≤ 10
+  pub mask-passed : MaskPassed mask stage
   pub values : length llrs ≡ length mask
   pub some-sweep : 0 < sweeps
   pub few : sweeps ≤ maxSweeps

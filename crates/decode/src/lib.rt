@@ -1,20 +1,19 @@
 // The decoder: the tests of a call, SCAN's soft values by the plan, and what is read off them.
 use decisions::read_off;
 use inputs::both;
-use inputs::exponent_of;
-use inputs::mask_bytes;
+use inputs::is_llr;
+use inputs::mask_tests;
+use inputs::sweeps_fit;
 use inputs::tested;
 use inputs::unfrozen_of;
 use plans::fault_of;
 use scan::soft_values;
 use words::fill;
+use words::widened;
 ghost use mathlib.Core.Path.{_≡_};
-ghost use mathlib.Core.Bool.{not, _&&_};
 ghost use mathlib.Core.List.{[], _∷_};
-ghost use lib.Dec.{eqb, leb};
-ghost use lib.IntN.{natAbs};
 ghost use lib.ListN.{length};
-ghost use Rattle.model.specs.Refusals.{maxSweeps, llrsInRange, refusal, test, row-2, row-3, row-4, row-11, row-12};
+ghost use Rattle.model.specs.Refusals.{llrsInRange, refusal, row-3, row-4, row-11, row-12};
 ghost use Rattle.decode.specs.Calls.{callOf, Answered, Written};
 ghost use Rattle.decode.specs.Steps.{InputTests};
 
@@ -35,16 +34,6 @@ fn answer(number: u32, cycles: u32, check: u8) -> Decoded
     }
 }
 
-// The most sweeps.
-const MAX_SWEEPS: usize = 16;
-
-// Whether an LLR is within its range.
-fn is_llr(z: i16) -> bool
-    ensures { λ r. ⌜ r ≡ leb (natAbs z) 32767 ⌝ }
-{
-    -32768 < z
-}
-
 // Whether every LLR is within its range.
 fn in_range(llrs: &[i16]) -> bool
     ensures { λ r. ⌜ r ≡ llrsInRange (now (llrs .entry)) ⌝ }
@@ -52,20 +41,10 @@ fn in_range(llrs: &[i16]) -> bool
     let mut good = true;
     let mut i = 0;
     while i < llrs.len() {
-        good = both(good, is_llr(llrs[i]));
+        good = both(good, is_llr(widened(llrs[i])));
         i += 1;
     }
     good
-}
-
-fn sweeps_fit(sweeps: usize) -> bool
-    ensures { λ r. ⌜ r ≡ (leb 1 sweeps && leb sweeps maxSweeps) ⌝ }
-{
-    if 1 <= sweeps {
-        sweeps <= MAX_SWEEPS
-    } else {
-        false
-    }
 }
 
 // What the tests of the inputs find: the number, and where it is 0 the cycles of one sweep and the exponent of N.
@@ -85,37 +64,37 @@ fn refused(number: u32) -> Tested
     }
 }
 
-// Tests 1 to 4; t is the exponent of N, 0 where N is not allowed.
-fn first_tests(t: usize, mask: &[u8], llrs: &[i16], sweeps: usize) -> u32
-    ensures { λ r. ⌜ r ≡ refusal (test 1 (not (eqb t 0)) ∷ row-2 (now (mask .entry)) ∷ row-3 (length (now (llrs .entry))) (length (now (mask .entry))) ∷ row-4 sweeps ∷ []) ⌝ }
+// Tests 3 and 4, for N.
+fn count_tests(n: usize, llrs: usize, sweeps: usize) -> u32
+    ensures { λ r. ⌜ r ≡ refusal (row-3 llrs n ∷ row-4 sweeps ∷ []) ⌝ }
 {
-    let bytes = mask_bytes(mask);
-    let counted = llrs.len() == mask.len();
     let fourth = tested(sweeps_fit(sweeps), 0, 4);
-    let second = tested(bytes, tested(counted, fourth, 3), 2);
-    tested(t != 0, second, 1)
+    tested(llrs == n, fourth, 3)
 }
 
 // Tests 1 to 7.
 fn input_tests(mask: &[u8], plan: &[u8], sweeps: usize, llrs: &[i16]) -> Tested
     ensures { λ r. ⌜ InputTests (now (mask .entry)) (now (plan .entry)) sweeps (now (llrs .entry)) (r .number) (r .cycles) (r .stage) ⌝ }
 {
-    let t = exponent_of(mask.len());
-    let first = first_tests(t, mask, llrs, sweeps);
-    if first != 0 {
-        return refused(first);
+    let masked = mask_tests(mask);
+    if masked.number != 0 {
+        return refused(masked.number);
     }
-    let plan_test = fault_of(mask, plan, t);
-    if plan_test.number != 0 {
-        return refused(plan_test.number);
+    let counted = count_tests(mask.len(), llrs.len(), sweeps);
+    if counted != 0 {
+        return refused(counted);
+    }
+    let planned = fault_of(mask, plan, masked.stage);
+    if planned.number != 0 {
+        return refused(planned.number);
     }
     if !in_range(llrs) {
         return refused(7);
     }
     Tested {
         number: 0,
-        cycles: plan_test.cycles,
-        stage: t,
+        cycles: planned.cycles,
+        stage: masked.stage,
     }
 }
 

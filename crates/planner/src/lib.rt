@@ -25,7 +25,7 @@ fn zero_front(plan: &mut [u8], n: usize)
 }
 
 // Cuts each node of a kind, from node p of stage t down, that has no such node above it, and counts it by its kind.
-fn write_plan(mask: &[u8], plan: &mut [u8], counts: &mut [u32; 6], t: usize, p: usize)
+fn write_plan(mask: &[u8], plan: &mut [u8], counts: &mut [u32; KINDS], t: usize, p: usize)
     requires { ⌜ Node t p (length (now mask)) (length (now plan)) ⌝ }
     requires { ⌜ Free t (now counts) ⌝ }
     ensures { λ _. ⌜ now (plan .exit) ≡ written t p (now (mask .entry)) (now (plan .entry)) ⌝ }
@@ -52,7 +52,7 @@ fn write_plan(mask: &[u8], plan: &mut [u8], counts: &mut [u32; 6], t: usize, p: 
 // What the planner answers: the number, and the counts of cut nodes by kind, in table order.
 pub struct Planned {
     pub number: u32,
-    pub counts: [u32; 6],
+    pub counts: [u32; KINDS],
 }
 
 // Writes the plan that cuts each node of a kind that has no such node above it.
@@ -60,7 +60,7 @@ pub fn plan_mask(mask: &[u8], plan: &mut [u8]) -> Planned
     ensures { λ r. ⌜ (r .number ≡ planNumber (now (mask .entry)) (length (now (plan .entry)))) × (r .counts ≡ planCounts (now (mask .entry)) (length (now (plan .entry)))) ⌝ }
     ensures { λ _. ⌜ now (plan .exit) ≡ planBytes (now (mask .entry)) (now (plan .entry)) ⌝ }
 {
-    let mut counts = [0u32; 6];
+    let mut counts = [0u32; KINDS];
     let masked = mask_tests(mask);
     if masked.number != 0 {
         return Planned {

@@ -108,7 +108,7 @@ pub fn store_four(w: &mut [i32], d: usize, p: i32, q: i32, r: i32, s: i32)
 }
 
 // An LLR as a word.
-fn widened(llr: i16) -> i32
+pub fn widened(llr: i16) -> i32
     ensures { λ r. ⌜ r ≡ llr ⌝ }
 {
     let word = llr as i32;

@@ -3,11 +3,10 @@ use mathlib.Core.Path.{_≡_, refl, sym, ap, _∙_}
 use mathlib.Core.Bool.{Bool, _&&_}
 use Prim.Native.Nat.{_+_, _-_, _≤_}
 use native.Mathlib.Omega.{arith}
-use lib.Dec.{leb}
-use lib.IntN.{ℤ, pos, natAbs}
+use lib.IntN.{pos}
 use lib.ListN.{length, getD, drop}
-use Rattle.words.proofs.Signed.{back16}
-use Rattle.model.specs.Refusals.{llrsInRange}
+use Rattle.words.proofs.Signed.{back, back16}
+use Rattle.model.specs.Refusals.{isLlr, llrsInRange}
 use Rattle.decode.proofs.Ranges.{range-more, range-end}
 use borrow.Author.Needs.{needs}
 use Rattle.decode.proofs.in_range.Statement.{statement}
@@ -22,11 +21,14 @@ abbrev μ-loop : tie.MeasureT-loop
 loop-holds : tie.Need-loop-holds Inv-loop μ-loop
 loop-holds c = (omega arith, refl)
 
-mul-is-llr : tie.Need-mul-is-llr Inv-loop μ-loop
-mul-is-llr c = search needs
+mul-widened : tie.Need-mul-widened Inv-loop μ-loop
+mul-widened c = search needs
 
-shared-slice-copy-out-is-llr : tie.Need-shared-slice-copy-out-is-llr Inv-loop μ-loop
-shared-slice-copy-out-is-llr c = search needs
+shared-slice-copy-out-widened : tie.Need-shared-slice-copy-out-widened Inv-loop μ-loop
+shared-slice-copy-out-widened c = search needs
+
+widened-requires : tie.Need-widened-requires Inv-loop μ-loop
+widened-requires c κs = search needs
 
 is-llr-requires : tie.Need-is-llr-requires Inv-loop μ-loop
 is-llr-requires c κs = search needs
@@ -42,12 +44,14 @@ loop-less c = search needs
 
 loop-again : tie.Need-loop-again Inv-loop μ-loop
 loop-again c =
-    let l = c .before .before .before .before in
+    let l = c .before .before .before .before .before in
     let llrs = l .before .args .llrs .now in
-    let i = l .loop .i in (
+    let i = l .loop .i in
+    let wide = c .before .before .widened in
+    let value = back (wide .ok) ∙ wide .ensures ∙ back16 {z = getD llrs i (pos 0)} (c .before .before .before .widened-arg .given) in (
       search needs,
       l .loop .inv .1 ∙ range-more (l .loop .good) llrs i (search needs)
-          ∙ ap (λ (b : Bool). b && llrsInRange (drop (i + 1) llrs)) (sym (c .both .ensures ∙ ap (λ (b : Bool). l .loop .good && b) (c .before .is-llr .ensures ∙ ap (λ (z : ℤ). leb (natAbs z) 32767) (back16 {z = getD llrs i (pos 0)} (c .before .before .is-llr-arg .given))))),
+          ∙ ap (λ (b : Bool). b && llrsInRange (drop (i + 1) llrs)) (sym (c .both .ensures ∙ ap (λ (b : Bool). l .loop .good && b) (c .before .is-llr .ensures ∙ ap isLlr value))),
     )
 
 returns : tie.Need-returns Inv-loop μ-loop
@@ -63,8 +67,9 @@ in-range-spec =
     Inv-loop
     μ-loop
     loop-holds
-    mul-is-llr
-    shared-slice-copy-out-is-llr
+    mul-widened
+    shared-slice-copy-out-widened
+    widened-requires
     is-llr-requires
     both-requires
     add-i
