@@ -26,7 +26,7 @@ use Rattle.words.proofs.Store.{write-in, length-write}
 use Rattle.scan.specs.Space.{Decodable}
 use Rattle.decisions.specs.Bits.{decisionAt, wordDecisions, Readable}
 use Rattle.decisions.proofs.Reading.{write-front}
-use Rattle.decode.specs.Calls.{callOf, Answered, Written}
+use Rattle.decode.specs.Calls.{Lent, lent, Given, callOf, Outcome}
 use Rattle.decode.specs.Steps.{inputNumber, Passed}
 use Rattle.model.specs.Plans as plans
 
@@ -72,9 +72,33 @@ unfolding tabulate
 same-places zero = refl
 same-places (suc n) = ap {B = List ℤ} (λ xs. pos 0 ∷ xs) (same-places n)
 
-module _ (mask plan : List ℕ) (k : ℕ) (llrs soft : List ℤ) (hard payload : List ℕ) (work : List ℤ) where
+module _ (g : Given) where
+  abbrev pub mask : List ℕ
+  mask = g .mask
+
+  abbrev pub plan : List ℕ
+  plan = g .plan
+
+  abbrev pub k : ℕ
+  k = g .sweeps
+
+  abbrev pub llrs : List ℤ
+  llrs = g .llrs
+
+  abbrev pub soft : List ℤ
+  soft = g .buffers .soft
+
+  abbrev pub hard : List ℕ
+  hard = g .buffers .hard
+
+  abbrev pub payload : List ℕ
+  payload = g .buffers .payload
+
+  abbrev pub work : List ℤ
+  work = g .buffers .work
+
   abbrev call : DecodeCall
-  call = callOf mask plan k llrs soft hard payload work
+  call = callOf g
 
   abbrev N : ℕ
   N = length mask
@@ -107,17 +131,16 @@ module _ (mask plan : List ℕ) (k : ℕ) (llrs soft : List ℤ) (hard payload :
       ap₂ (λ (x y : ℕ). refusal (row-11 N (length soft) ∷ row-11 N (length hard) ∷ row-11 x (length payload) ∷ row-12 (N * (y + 3)) (length work) ∷ [])) e (p .mask-passed .stage-is)
 
   -- ---- a refused call
-  pub refused-answer : (number : ℕ) → (number ≡ 0 → ⊥) → number ≡ decodeNumber call → (r c d : ℕ) → r ≡ number → c ≡ 0 → d ≡ 0 → Answered call r c d
-  unfolding decodeCycles decodeCheck
-  refused-answer number h e r c d er ec ed =
+  pub refused-outcome : {number : ℕ} → (number ≡ 0 → ⊥) → number ≡ decodeNumber call → {r c d : ℕ} → r ≡ number → c ≡ 0 → d ≡ 0 → Outcome g (g .buffers) r c d
+  unfolding decodeCycles decodeCheck decodeSoft decodeHard decodePayload decodeWork
+  refused-outcome h e er ec ed =
       let b : eqb (decodeNumber call) 0 ≡ false = ne-eqb (decodeNumber call) 0 (λ z. h (e ∙ z)) in
-      record { number-is = er ∙ e; cycles-is = ec ∙ sym (rw b); check-is = ed ∙ sym (rw b) }
-
-  pub refused-written : (number : ℕ) → (number ≡ 0 → ⊥) → number ≡ decodeNumber call → Written call soft soft hard hard payload payload work work
-  unfolding decodeSoft decodeHard decodePayload decodeWork
-  refused-written number h e =
-      let b : eqb (decodeNumber call) 0 ≡ false = ne-eqb (decodeNumber call) 0 (λ z. h (e ∙ z)) in
-      record { soft-is = sym (rw b); hard-is = sym (rw b); payload-is = sym (rw b); work-is = sym (rw b) }
+      record {
+        number-is = er ∙ e;
+        cycles-is = ec ∙ sym (rw b);
+        check-is = ed ∙ sym (rw b);
+        left = record { soft-is = sym (rw b); hard-is = sym (rw b); payload-is = sym (rw b); work-is = sym (rw b) };
+      }
 
   -- ---- an accepted call
   module _ (z : 0 ≡ roomNumber) where
@@ -234,29 +257,27 @@ module _ (mask plan : List ℕ) (k : ℕ) (llrs soft : List ℤ) (hard payload :
           accept : eqb (decodeNumber call) 0 ≡ true
           accept = eq-eqb (decodeNumber call) 0 (sym zero-is)
 
-          pub accepted-answer : (r c d : ℕ) → r ≡ 0 → c ≡ k * cycles → d ≡ bit (frozenZero mask (transform (exponent N) (wordDecisions llrs soft′ N))) → Answered call r c d
-          unfolding decodeCycles decodeCheck decodeScan decided
-          accepted-answer r c d er ec ed = record {
-            number-is = er ∙ zero-is;
-            cycles-is = ec ∙ ap (λ (m : ℕ). k * m) (p .cycles-is ∙ ap (λ (m : ℕ). plans.cycles plan m 1 mask) (p .mask-passed .stage-is)) ∙ sym (rw accept);
-            check-is = ed ∙ ap (λ (v : List ℕ). bit (frozenZero mask v)) u-is ∙ sym (rw accept (ap (λ a. a .check) answer-is));
-          }
-
-          pub accepted-written : (hard′ payload′ : List ℕ) (work′ : List ℤ)
+          pub accepted-outcome : {r c d : ℕ} {hard′ payload′ : List ℕ} {work′ : List ℤ} → r ≡ 0 → c ≡ k * cycles
+              → d ≡ bit (frozenZero mask (transform (exponent N) (wordDecisions llrs soft′ N)))
               → hard′ ≡ over (wordDecisions llrs soft′ N) hard
               → payload′ ≡ over (payloadOf mask (transform (exponent N) (wordDecisions llrs soft′ N))) payload
               → work′ ≡ write work 0 (N * (t + 3)) (λ i. pos 0)
-              → Written call soft soft′ hard hard′ payload payload′ work work′
-          unfolding decodeSoft decodeHard decodePayload decodeWork decodeScan decided
-          accepted-written hard′ payload′ work′ eh ep ew = record {
-            soft-is = es ∙ write-front (pos 0) soft N (λ i. wordOf (scan t mask (map finite llrs) k at i)) soft-room
-                ∙ ap (λ (l : List ℤ). over l soft) (by-places wordOf (scan t mask (map finite llrs) k) softZero N (scan-length t (p .mask-passed .not-zero) mask (map finite llrs) k ∙ sym (p .mask-passed .sized)))
-                ∙ sym (rw accept (ap (λ a. over (map wordOf (a .soft)) soft) answer-is));
-            hard-is = eh ∙ ap (λ (l : List ℕ). over l hard) decisions-are ∙ sym (rw accept (ap (λ a. over (a .hard) hard) answer-is));
-            payload-is = ep ∙ ap (λ (v : List ℕ). over (payloadOf mask v) payload) u-is ∙ sym (rw accept (ap (λ a. over (a .payload) payload) answer-is));
-            work-is = ew ∙ ap (λ (m : ℕ). write work 0 (N * (m + 3)) (λ i. pos 0)) (p .mask-passed .stage-is)
-                ∙ write-front (pos 0) work (N * (n + 3)) (λ i. pos 0) work-room
-                ∙ ap (λ (l : List ℤ). over l work) (same-places (N * (n + 3))) ∙ sym (rw accept);
+              → Outcome g (lent soft′ hard′ payload′ work′) r c d
+          unfolding decodeCycles decodeCheck decodeSoft decodeHard decodePayload decodeWork decodeScan decided
+          accepted-outcome er ec ed eh ep ew = record {
+            number-is = er ∙ zero-is;
+            cycles-is = ec ∙ ap (λ (m : ℕ). k * m) (p .cycles-is ∙ ap (λ (m : ℕ). plans.cycles plan m 1 mask) (p .mask-passed .stage-is)) ∙ sym (rw accept);
+            check-is = ed ∙ ap (λ (v : List ℕ). bit (frozenZero mask v)) u-is ∙ sym (rw accept (ap (λ a. a .check) answer-is));
+            left = record {
+              soft-is = es ∙ write-front (pos 0) soft N (λ i. wordOf (scan t mask (map finite llrs) k at i)) soft-room
+                  ∙ ap (λ (l : List ℤ). over l soft) (by-places wordOf (scan t mask (map finite llrs) k) softZero N (scan-length t (p .mask-passed .not-zero) mask (map finite llrs) k ∙ sym (p .mask-passed .sized)))
+                  ∙ sym (rw accept (ap (λ a. over (map wordOf (a .soft)) soft) answer-is));
+              hard-is = eh ∙ ap (λ (l : List ℕ). over l hard) decisions-are ∙ sym (rw accept (ap (λ a. over (a .hard) hard) answer-is));
+              payload-is = ep ∙ ap (λ (v : List ℕ). over (payloadOf mask v) payload) u-is ∙ sym (rw accept (ap (λ a. over (a .payload) payload) answer-is));
+              work-is = ew ∙ ap (λ (m : ℕ). write work 0 (N * (m + 3)) (λ i. pos 0)) (p .mask-passed .stage-is)
+                  ∙ write-front (pos 0) work (N * (n + 3)) (λ i. pos 0) work-room
+                  ∙ ap (λ (l : List ℤ). over l work) (same-places (N * (n + 3))) ∙ sym (rw accept);
+            };
           }
 
 -- N(n + 3) words can be counted

@@ -14,7 +14,7 @@ ghost use mathlib.Core.Path.{_≡_};
 ghost use mathlib.Core.List.{[], _∷_};
 ghost use lib.ListN.{length};
 ghost use Rattle.model.specs.Refusals.{llrsInRange, refusal, row-3, row-4, row-11, row-12};
-ghost use Rattle.decode.specs.Calls.{callOf, Answered, Written};
+ghost use Rattle.decode.specs.Calls.{lent, given, Outcome};
 ghost use Rattle.decode.specs.Steps.{InputTests};
 
 // What a decode answers: the number, and for an accepted call the cycles and the frozen check.
@@ -127,8 +127,11 @@ pub fn decode(
     payload: &mut [u8],
     work: &mut [i32],
 ) -> Decoded
-    ensures { λ r. ⌜ Answered (callOf (now (mask .entry)) (now (plan .entry)) sweeps (now (llrs .entry)) (now (soft .entry)) (now (hard .entry)) (now (payload .entry)) (now (work .entry))) (r .number) (r .cycles) (r .check) ⌝ }
-    ensures { λ _. ⌜ Written (callOf (now (mask .entry)) (now (plan .entry)) sweeps (now (llrs .entry)) (now (soft .entry)) (now (hard .entry)) (now (payload .entry)) (now (work .entry))) (now (soft .entry)) (now (soft .exit)) (now (hard .entry)) (now (hard .exit)) (now (payload .entry)) (now (payload .exit)) (now (work .entry)) (now (work .exit)) ⌝ }
+    ensures { λ r. ⌜ Outcome
+        (given (now (mask .entry)) (now (plan .entry)) sweeps (now (llrs .entry))
+            (lent (now (soft .entry)) (now (hard .entry)) (now (payload .entry)) (now (work .entry))))
+        (lent (now (soft .exit)) (now (hard .exit)) (now (payload .exit)) (now (work .exit)))
+        (r .number) (r .cycles) (r .check) ⌝ }
 {
     let input = input_tests(mask, plan, sweeps, llrs);
     if input.number != 0 {

@@ -67,6 +67,5 @@ pub fn answer(bytes: &[u8], out: &mut [u8]) -> usize
         return print_refusal(line.number, out);
     }
     let n = line.size;
-    let sweeps = line.sweeps as usize;
-    answer_planned(&mask[..n], sweeps, &llrs[..n], out)
+    answer_planned(&mask[..n], line.sweeps, &llrs[..n], out)
 }

@@ -16,7 +16,8 @@ use Rattle.fields.specs.Steps.{fieldAt, nextAt, rest}
 use Rattle.fields.proofs.Split.{and-both, rest-split, rest-none, next-most}
 use Rattle.reader.specs.declared.Llrs.{Llrs}
 use Rattle.reader.specs.declared.Llrs.the-variants.{Numbers, Broken}
-use Rattle.reader.specs.Steps.{isLlr, llrsRead, ReadLlrs}
+use Rattle.model.specs.Refusals.{isLlr}
+use Rattle.reader.specs.Steps.{llrsRead, ReadLlrs}
 
 -- the answer after k LLRs, all within ±32767 or not, with the fields fs to come
 unfoldable pub llrsFrom : ℕ → Bool → List (List ℕ) → Llrs

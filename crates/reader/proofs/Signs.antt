@@ -10,20 +10,12 @@ use borrow.Author.Tests.{lt-leb, le-leb, leb-true, ltb-true, ltb-false}
 use mir.Syntax.{w16}
 use mir.Val.{SFits}
 use Rattle.reader.specs.Answers.{count}
-use Rattle.reader.specs.Steps.{isLlr}
+use Rattle.model.specs.Refusals.{isLlr}
 
 -- ---- the range of an LLR
-pub llr-low : (z : ℤ) → ltZ z (negsuc 32766) ≡ true → isLlr z ≡ false
-llr-low (pos n) e = absurd (subst T (sym e) tt)
-llr-low (negsuc n) e = lt-leb (suc n) 32767 (omega (arith, ltb-true 32766 n e))
-
 pub llr-fits : (z : ℤ) → isLlr z ≡ true → SFits w16 z
 llr-fits (pos n) e = record { sfits = omega (arith, leb-true n 32767 e) }
 llr-fits (negsuc n) e = record { sfits = omega (arith, leb-true (suc n) 32767 e) }
-
-pub llr-high : (z : ℤ) → ltZ z (negsuc 32766) ≡ false → leZ z (pos 32767) ≡ isLlr z
-llr-high (pos n) e = refl
-llr-high (negsuc n) e = sym (le-leb (suc n) 32767 (omega (arith, ltb-false 32766 n e)))
 
 -- ---- sweeps as a count
 pub count-negative : (z : ℤ) → ltZ z (pos 0) ≡ true → 0 ≡ count z

@@ -3,8 +3,7 @@ use mathlib.Core.Path.{_≡_}
 use mathlib.Core.Bool.{Bool, true, cond}
 use mathlib.Core.List.{List, [], _∷_, map}
 use Prim.Native.Nat.{ℕ, _≤_}
-use lib.Dec.{leb}
-use lib.IntN.{ℤ, natAbs}
+use lib.IntN.{ℤ}
 use lib.ListN.{length, take}
 use lib.Seq.{sets}
 use Rattle.model.specs.Lists.{atMost}
@@ -14,9 +13,6 @@ use Rattle.fields.specs.Grammar.{digit, value, allNumbers, fields, Reading, rea
 use Rattle.reader.specs.declared.Llrs.{Llrs}
 use Rattle.reader.specs.declared.Llrs.the-variants.{Numbers, Broken}
 use Rattle.reader.specs.Answers.{maskOf, llrsOf, lineNumber, lineSize, lineSweeps}
-
-abbrev pub isLlr : ℤ → Bool
-isLlr z = leb (natAbs z) 32767
 
 -- fields as LLRs: how many, and whether all are within ±32767
 unfoldable pub llrsRead : List (List ℕ) → Llrs

@@ -7,35 +7,23 @@ use fields::find;
 use inputs::at_most;
 use inputs::both;
 use inputs::exponent_of;
+use inputs::is_llr;
+use inputs::sweeps_fit;
 use inputs::tested;
 ghost use mathlib.Core.Path.{_≡_};
-ghost use mathlib.Core.Bool.{true, _&&_};
+ghost use mathlib.Core.Bool.{true};
 ghost use mathlib.Core.List.{map};
 ghost use Prim.Native.Nat.{_+_, _≤_};
-ghost use lib.Dec.{leb};
 ghost use lib.ListN.{length, set};
 ghost use Rattle.model.specs.Lists.{over};
-ghost use Rattle.model.specs.Refusals.{maxSweeps, accepted};
+ghost use Rattle.model.specs.Refusals.{isLlr, accepted};
 ghost use Rattle.fields.specs.Grammar.{fields, digit, readLine, readFields};
 ghost use Rattle.fields.specs.Steps.{rest};
 ghost use Rattle.reader.specs.Answers.{count, lineNumber, lineSize, lineSweeps, lineMask, lineLlrs};
-ghost use Rattle.reader.specs.Steps.{isLlr, ReadLlrs, fieldsNumber, Answered, Fronts};
-
-// Sweeps run from 1 to this.
-const MAX_SWEEPS: u32 = 16;
+ghost use Rattle.reader.specs.Steps.{ReadLlrs, fieldsNumber, Answered, Fronts};
 
 // A line has at most this many bytes with its line feed.
 const MAX_LINE: usize = 16384;
-
-// Whether a number is within ±32767.
-fn is_llr(z: i32) -> bool
-    ensures { λ r. ⌜ r ≡ isLlr z ⌝ }
-{
-    if z < -32767 {
-        return false;
-    }
-    z <= 32767
-}
 
 // Stores an LLR at k, if it is in range and there is room; answers whether it is in range.
 fn store_llr(z: i32, llrs: &mut [i16], k: usize) -> bool
@@ -79,25 +67,15 @@ fn read_llrs(line: &[u8], from: usize, llrs: &mut [i16]) -> Llrs
 }
 
 // Sweeps as a count: 0 if they are negative.
-fn sweep_count(sweeps: i32) -> u32
+fn sweep_count(sweeps: i32) -> usize
     ensures { λ r. ⌜ r ≡ count sweeps ⌝ }
 {
-    if sweeps < 0 { 0 } else { sweeps as u32 }
-}
-
-fn sweeps_fit(sweeps: u32) -> bool
-    ensures { λ r. ⌜ r ≡ (leb 1 sweeps && leb sweeps maxSweeps) ⌝ }
-{
-    if 1 <= sweeps {
-        sweeps <= MAX_SWEEPS
-    } else {
-        false
-    }
+    if sweeps < 0 { 0 } else { sweeps as usize }
 }
 
 // The number of a line by its parts: the number of mask digits, whether they are bits, the sweeps, the number of LLRs,
 // whether those are in range.
-fn fields_number(digits: usize, bits: bool, sweeps: u32, llrs: usize, in_range: bool) -> u32
+fn fields_number(digits: usize, bits: bool, sweeps: usize, llrs: usize, in_range: bool) -> u32
     ensures { λ r. ⌜ r ≡ fieldsNumber digits bits sweeps llrs in_range ⌝ }
 {
     let t = exponent_of(digits);
@@ -110,7 +88,7 @@ fn fields_number(digits: usize, bits: bool, sweeps: u32, llrs: usize, in_range: 
 pub struct Line {
     pub number: u32,
     pub size: usize,
-    pub sweeps: u32,
+    pub sweeps: usize,
 }
 
 fn refused(number: u32) -> Line
@@ -124,7 +102,7 @@ fn refused(number: u32) -> Line
 }
 
 // What is answered of a line with this number, N and sweeps.
-fn answer(number: u32, size: usize, sweeps: u32) -> Line
+fn answer(number: u32, size: usize, sweeps: usize) -> Line
     ensures { λ r. ⌜ (r .number ≡ number) × (r .size ≡ accepted number size 0) × (r .sweeps ≡ accepted number sweeps 0) ⌝ }
 {
     if number != 0 {

@@ -4,7 +4,7 @@ use mathlib.Core.Bool.{true, false}
 use lib.Seq.{set-out}
 use mir.Facts.{toZ-ofZ}
 use borrow.Author.Tests.{not-true, not-false}
-use Rattle.reader.specs.Steps.{isLlr}
+use Rattle.model.specs.Refusals.{isLlr}
 use Rattle.reader.proofs.Signs.{llr-fits}
 use Rattle.model.proofs.Lists.{absurd-bool}
 use borrow.Author.Needs.{needs}

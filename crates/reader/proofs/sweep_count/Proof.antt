@@ -1,4 +1,5 @@
 -- `reader::sweep_count` meets its contract, by the sign of the sweeps. Assumes nothing.
+use native.Mathlib.Omega.{arith}
 use mir.Facts.{toZ-ofZ}
 use Rattle.fields.proofs.Signs.{plain-cast}
 use Rattle.reader.proofs.Signs.{count-negative, count-plain}
@@ -6,7 +7,9 @@ use Rattle.reader.proofs.sweep_count.Statement.{statement}
 use Rattle.reader.proofs.sweep_count.Tie as tie
 
 cast-result : tie.Need-cast-result
-cast-result c = plain-cast (c .before .args .sweeps) (c .before .fits .sweeps) (rw (toZ-ofZ (c .before .fits .sweeps)) at (c .if1 .left))
+cast-result c =
+    let fit = plain-cast (c .before .args .sweeps) (c .before .fits .sweeps) (rw (toZ-ofZ (c .before .fits .sweeps)) at (c .if1 .left)) in
+    (fit .0, record { fits = omega (arith, fit .1 .fits) })
 
 returns : tie.Need-returns
 returns c = count-negative (c .before .args .sweeps) (rw (toZ-ofZ (c .before .fits .sweeps)) at (c .if1 .taken))
