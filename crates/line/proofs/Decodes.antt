@@ -16,12 +16,12 @@ use Rattle.model.specs.Encoding.{unfrozen, transform, payloadOf}
 use Rattle.model.specs.Scan.{scan, hardWord, decided, Decoded, decodeScan}
 use Rattle.model.specs.Bounds.{Under, limit}
 use Rattle.model.specs.Plans.{Allowed, isPlan, oneCut, cutsOfKinds, cycles}
-use Rattle.model.specs.Refusals.{exponent, planNumber, DecodeCall, decodeNumber, decodeAnswer, decodeCycles, decodeCheck, decodeSoft, decodeHard, decodePayload}
+use Rattle.model.specs.Refusals.{exponent, maxSweeps, planNumber, DecodeCall, decodeNumber, decodeAnswer, decodeCycles, decodeCheck, decodeSoft, decodeHard, decodePayload}
 use Rattle.model.proofs.Lists.{T-true, true-T, length-tabulate}
 use Rattle.model.proofs.Bounds.{soft-under, cap-limit, under-mono}
 use Rattle.model.proofs.Refusals.{pass, none-left, exponent-power, llrs-small}
 use Rattle.words.specs.Words.{softOf}
-use Rattle.decode.specs.Calls.{callOf, Answered, Written}
+use Rattle.decode.specs.Calls.{Lent, given, callOf, Outcome}
 use Rattle.decode.proofs.Answers.{scan-length}
 use Rattle.reader.specs.Steps.{Fit}
 use Rattle.printer.specs.Text.{okText, decoded}
@@ -82,9 +82,16 @@ module _ (mask plan : List ℕ) (k : ℕ) (llrs : List ℤ) (f : Fit mask k llrs
   work-room : N * (n + 3) ≤ 13312
   work-room = let h : n + 3 ≤ 13 = omega (arith, exponent-power N (f .allowed) .1) in mul-le-mul (f .small) h
 
-  module _ (soft : List ℤ) (hard payload : List ℕ) (work : List ℤ) (rs : length soft ≡ 1024) (rh : length hard ≡ 1024) (rp : length payload ≡ 1024) (rw′ : length work ≡ 13312) where
+  -- what the program's buffers hold
+  pub record Sizes (b : Lent) : Type 0 where
+    pub soft-size : length (b .soft) ≡ 1024
+    pub hard-size : length (b .hard) ≡ 1024
+    pub payload-size : length (b .payload) ≡ 1024
+    pub work-size : length (b .work) ≡ 13312
+
+  module _ (b : Lent) (z : Sizes b) where
     abbrev call : DecodeCall
-    call = callOf mask plan k llrs soft hard payload work
+    call = callOf (given mask plan k llrs b)
 
     number-zero : decodeNumber call ≡ 0
     unfolding decodeNumber
@@ -93,14 +100,14 @@ module _ (mask plan : List ℕ) (k : ℕ) (llrs : List ℤ) (f : Fit mask k llrs
         pass 1 _ _ (rw (ne-eqb n 0 (f .allowed)))
         (pass 2 _ _ (f .bits)
         (pass 3 _ _ (eq-eqb (length llrs) N (f .same))
-        (pass 4 _ _ (both-true (le-leb 1 k (f .some)) (le-leb k 16 (f .most)))
+        (pass 4 _ _ (both-true (le-leb 1 k (f .some)) (le-leb k maxSweeps (f .most)))
         (pass 5 _ _ (T-true (isPlan n plan) (A .bytes))
         (pass 6 _ _ (both-true (T-true (oneCut n plan) (A .paths)) (T-true (cutsOfKinds plan n 1 mask) (A .kinds)))
         (pass 7 _ _ (f .range)
-        (pass 11 _ _ (le-leb N (length soft) (omega arith))
-        (pass 11 _ _ (le-leb N (length hard) (omega arith))
-        (pass 11 _ _ (le-leb (unfrozen mask) (length payload) (omega (arith, unfrozen-most mask)))
-        (pass 12 _ _ (le-leb (N * (n + 3)) (length work) (omega (arith, work-room)))
+        (pass 11 _ _ (le-leb N (length (b .soft)) (omega (arith, z .soft-size)))
+        (pass 11 _ _ (le-leb N (length (b .hard)) (omega (arith, z .hard-size)))
+        (pass 11 _ _ (le-leb (unfrozen mask) (length (b .payload)) (omega (arith, z .payload-size, unfrozen-most mask)))
+        (pass 12 _ _ (le-leb (N * (n + 3)) (length (b .work)) (omega (arith, z .work-size, work-room)))
         none-left))))))))))
 
     accept : eqb (decodeNumber call) 0 ≡ true
@@ -111,25 +118,24 @@ module _ (mask plan : List ℕ) (k : ℕ) (llrs : List ℤ) (f : Fit mask k llrs
         under-mono (scan n mask (map finite llrs) k at j) (let c = cap-limit n (exponent-power N (f .allowed) .1) in omega arith)
         (soft-under n mask (map finite llrs) (llrs-small n llrs (true-T _ (f .range))) k j lt)
 
-    module _ (number c check : ℕ) (ans : Answered call number c check) where
+    module _ {number c check : ℕ} {after : Lent} (o : Outcome (given mask plan k llrs b) after number c check) where
       cycles-are : c ≡ k * cycles plan n 1 mask
       unfolding decodeCycles
-      cycles-are = ans .cycles-is ∙ rw accept
+      cycles-are = o .cycles-is ∙ rw accept
 
-      module _ (soft′ : List ℤ) (hard′ payload′ : List ℕ) (work′ : List ℤ) (w : Written call soft soft′ hard hard′ payload payload′ work work′) where
-        answer-is : (K : ℕ) → K ≡ unfrozen mask → decoded (map softOf (take N soft′)) (take N hard′) (take K payload′) check ≡ answer
-        unfolding decodeCheck decodeSoft decodeHard decodePayload decodeAnswer decodeScan decided hardWord
-        answer-is K eK =
-            let sized : N ≡ 2 ^ n = exponent-power N (f .allowed) .0 in
-            let S : List Soft = scan n mask (map finite llrs) k in
-            let long : length S ≡ 2 ^ n = scan-length n (f .allowed) mask (map finite llrs) k in
-            parts answer (map softOf (take N soft′)) (take N hard′) (take K payload′) check
-            (ap (λ (l : List ℤ). map softOf (take N l)) (w .soft-is ∙ rw accept)
-            ∙ ap (map softOf) (front N (map wordOf S) soft (length-map S wordOf ∙ long ∙ sym sized))
-            ∙ softs-back S (λ j lt. under j (omega (arith, long))))
-            (ap (take N) (w .hard-is ∙ rw accept) ∙ front N (answer .hard) hard (length-tabulate (2 ^ n) _ ∙ sym sized))
-            (ap (take K) (w .payload-is ∙ rw accept) ∙ front K (answer .payload) payload (length-payload mask _ ∙ sym eK))
-            (ans .check-is ∙ rw accept)
+      answer-is : (K : ℕ) → K ≡ unfrozen mask → decoded (map softOf (take N (after .soft))) (take N (after .hard)) (take K (after .payload)) check ≡ answer
+      unfolding decodeCheck decodeSoft decodeHard decodePayload decodeAnswer decodeScan decided hardWord
+      answer-is K eK =
+          let sized : N ≡ 2 ^ n = exponent-power N (f .allowed) .0 in
+          let S : List Soft = scan n mask (map finite llrs) k in
+          let long : length S ≡ 2 ^ n = scan-length n (f .allowed) mask (map finite llrs) k in
+          parts answer (map softOf (take N (after .soft))) (take N (after .hard)) (take K (after .payload)) check
+          (ap (λ (l : List ℤ). map softOf (take N l)) (o .left .soft-is ∙ rw accept)
+          ∙ ap (map softOf) (front N (map wordOf S) (b .soft) (length-map S wordOf ∙ long ∙ sym sized))
+          ∙ softs-back S (λ j lt. under j (omega (arith, long))))
+          (ap (take N) (o .left .hard-is ∙ rw accept) ∙ front N (answer .hard) (b .hard) (length-tabulate (2 ^ n) _ ∙ sym sized))
+          (ap (take K) (o .left .payload-is ∙ rw accept) ∙ front K (answer .payload) (b .payload) (length-payload mask _ ∙ sym eK))
+          (o .check-is ∙ rw accept)
 
-        pub text-is : (K : ℕ) → K ≡ unfrozen mask → okText c (decoded (map softOf (take N soft′)) (take N hard′) (take K payload′) check) ≡ decodeText plan mask k llrs
-        text-is K eK = ap₂ okText cycles-are (answer-is K eK)
+      pub text-is : (K : ℕ) → K ≡ unfrozen mask → okText c (decoded (map softOf (take N (after .soft))) (take N (after .hard)) (take K (after .payload)) check) ≡ decodeText plan mask k llrs
+      text-is K eK = ap₂ okText cycles-are (answer-is K eK)

@@ -23,31 +23,37 @@ refused-text bytes number e h = rw (ne-eqb (lineNumber (readLine bytes)) 0 (λ z
 pub long-enough : {A : Type 0} (n : ℕ) (l : List A) → n ≡ length (take n l) → n ≤ length l
 long-enough n l e = omega (arith, length-take n l)
 
--- an accepted line
-module _ (bytes : List ℕ) (zero-is : lineNumber (readLine bytes) ≡ 0) where
-  abbrev line : Reading
-  line = readLine bytes
+-- what reading an accepted line left: its mask and its LLRs at the fronts of two buffers, N and the sweeps
+pub record Accepted (bytes mask : List ℕ) (llrs : List ℤ) (n k : ℕ) : Type 0 where
+  pub zero-is : lineNumber (readLine bytes) ≡ 0
+  pub mask-is : take n mask ≡ maskOf (readLine bytes)
+  pub llrs-are : take n llrs ≡ llrsOf (readLine bytes)
+  pub size-is : n ≡ length (maskOf (readLine bytes))
+  pub sweeps-are : k ≡ sweepsOf (readLine bytes)
 
-  module _ (mask mask₀ : List ℕ) (llrs llrs₀ : List ℤ) (n k : ℕ) (en : n ≡ lineSize line) (ek : k ≡ lineSweeps line) (em : mask ≡ lineMask line mask₀)
-      (el : llrs ≡ lineLlrs line llrs₀) where
-    mask-is : take n mask ≡ maskOf line
-    mask-is = rw (en, em) (mask-front line zero-is mask₀)
+pub accept : {bytes mask : List ℕ} (mask₀ : List ℕ) {llrs : List ℤ} (llrs₀ : List ℤ) {number n k : ℕ} → let line : Reading = readLine bytes in number ≡ 0 → (number ≡ lineNumber line) × (n ≡ lineSize line) × (k ≡ lineSweeps line)
+    → mask ≡ lineMask line mask₀ → llrs ≡ lineLlrs line llrs₀ → Accepted bytes mask llrs n k
+accept {bytes} mask₀ llrs₀ z r em el =
+    let line : Reading = readLine bytes in
+    let zero-is : lineNumber line ≡ 0 = sym (r .0) ∙ z in
+    record {
+      zero-is = zero-is;
+      mask-is = rw (r .1, em) (mask-front line zero-is mask₀);
+      llrs-are = rw (r .1, el) (llrs-front line zero-is llrs₀);
+      size-is = r .1 ∙ size-is line zero-is;
+      sweeps-are = r .2 ∙ sweeps-are line zero-is;
+    }
 
-    llrs-are : take n llrs ≡ llrsOf line
-    llrs-are = rw (en, el) (llrs-front line zero-is llrs₀)
+module _ {bytes mask : List ℕ} {llrs : List ℤ} {n k : ℕ} (a : Accepted bytes mask llrs n k) where
+  pub mask-count : n ≡ length (take n mask)
+  mask-count = rw (a .mask-is) (a .size-is)
 
-    pub mask-count : n ≡ length (take n mask)
-    mask-count = rw mask-is (en ∙ size-is line zero-is)
+  pub llrs-count : n ≡ length (take n llrs)
+  llrs-count = rw (a .llrs-are) (a .size-is ∙ sym (line-accepted (readLine bytes) (a .zero-is) .same))
 
-    pub llrs-count : n ≡ length (take n llrs)
-    llrs-count = rw llrs-are (en ∙ size-is line zero-is ∙ sym (line-accepted line zero-is .same))
+  pub line-fit : Fit (take n mask) k (take n llrs)
+  line-fit = rw (a .mask-is, a .llrs-are, a .sweeps-are) (line-accepted (readLine bytes) (a .zero-is))
 
-    sweeps-is : k ≡ sweepsOf line
-    sweeps-is = ek ∙ sweeps-are line zero-is
-
-    pub line-fit : Fit (take n mask) k (take n llrs)
-    line-fit = rw (mask-is, llrs-are, sweeps-is) (line-accepted line zero-is)
-
-    pub accepted-text : plannedText (take n mask) k (take n llrs) ≡ answerText bytes
-    unfolding answerText replyText
-    accepted-text = rw (mask-is, llrs-are, sweeps-is, eq-eqb (lineNumber line) 0 zero-is)
+  pub accepted-text : plannedText (take n mask) k (take n llrs) ≡ answerText bytes
+  unfolding answerText replyText
+  accepted-text = rw (a .mask-is, a .llrs-are, a .sweeps-are, eq-eqb (lineNumber (readLine bytes)) 0 (a .zero-is))

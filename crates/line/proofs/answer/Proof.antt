@@ -5,7 +5,7 @@ use native.Mathlib.Omega.{arith}
 use lib.ListN.{length}
 use lib.Seq.{length-take-le}
 use Rattle.line.proofs.Decodes.{reprinted}
-use Rattle.line.proofs.Replies.{refused-text, long-enough, mask-count, llrs-count, line-fit, accepted-text}
+use Rattle.line.proofs.Replies.{refused-text, long-enough, Accepted, accept, mask-count, llrs-count, line-fit, accepted-text}
 use borrow.Author.Needs.{needs}
 use Rattle.line.proofs.answer.Statement.{statement}
 use Rattle.line.proofs.answer.Tie as tie
@@ -25,56 +25,31 @@ returns c =
     let line = c .before .before .before .before .before .before .read-line in
     reprinted (refused-text bytes _ (line .ensures .0 .0) (c .before .before .before .before .if1 .taken)) (omega arith) (c .before .before .print-refusal .ensures)
 
-cast-sweeps : tie.Need-cast-sweeps
-cast-sweeps c = search needs
+-- where the line is accepted
+read : (c : tie.Else1) → let line = c .before .before .read-line in
+    Accepted (c .before .before .before .before .before .before .before .args .bytes .now) (line .last .1 .0) (line .last .1 .1 .0) (line .result .size) (line .result .sweeps)
+read c = let line = c .before .before .read-line in accept _ _ (c .if1 .left) (line .ensures .0) (line .ensures .1 .0) (line .ensures .1 .1)
 
 array-share-prefix-mask : tie.Need-array-share-prefix-mask
-array-share-prefix-mask c =
-    let bytes = c .before .before .before .before .before .before .before .before .args .bytes .now in
-    let line = c .before .before .before .read-line in
-    let zero-is = sym (line .ensures .0 .0) ∙ c .before .if1 .left in
-    long-enough _ (line .last .1 .0) (mask-count bytes zero-is (line .last .1 .0) _ (line .last .1 .1 .0) _ _ _ (line .ensures .0 .1) (line .ensures .0 .2) (line .ensures .1 .0) (line .ensures .1 .1))
+array-share-prefix-mask c = long-enough _ (c .before .before .read-line .last .1 .0) (mask-count (read c))
 
 slice-aggregate-answer-planned : tie.Need-slice-aggregate-answer-planned
-slice-aggregate-answer-planned c =
-    let bytes = c .before .before .before .before .before .before .before .before .before .args .bytes .now in
-    let line = c .before .before .before .before .read-line in
-    let zero-is = sym (line .ensures .0 .0) ∙ c .before .before .if1 .left in
-    mask-count bytes zero-is (line .last .1 .0) _ (line .last .1 .1 .0) _ _ _ (line .ensures .0 .1) (line .ensures .0 .2) (line .ensures .1 .0) (line .ensures .1 .1)
+slice-aggregate-answer-planned c = mask-count (read (c .before))
 
 array-share-prefix-llrs : tie.Need-array-share-prefix-llrs
-array-share-prefix-llrs c =
-    let bytes = c .before .before .before .before .before .before .before .before .before .args .bytes .now in
-    let line = c .before .before .before .before .read-line in
-    let zero-is = sym (line .ensures .0 .0) ∙ c .before .before .if1 .left in
-    long-enough _ (line .last .1 .1 .0) (llrs-count bytes zero-is (line .last .1 .0) _ (line .last .1 .1 .0) _ _ _ (line .ensures .0 .1) (line .ensures .0 .2) (line .ensures .1 .0) (line .ensures .1 .1))
+array-share-prefix-llrs c = long-enough _ (c .before .before .before .read-line .last .1 .1 .0) (llrs-count (read (c .before)))
 
 slice-aggregate-answer-planned-2 : tie.Need-slice-aggregate-answer-planned-2
-slice-aggregate-answer-planned-2 c =
-    let bytes = c .before .before .before .before .before .before .before .before .before .before .args .bytes .now in
-    let line = c .before .before .before .before .before .read-line in
-    let zero-is = sym (line .ensures .0 .0) ∙ c .before .before .before .if1 .left in
-    llrs-count bytes zero-is (line .last .1 .0) _ (line .last .1 .1 .0) _ _ _ (line .ensures .0 .1) (line .ensures .0 .2) (line .ensures .1 .0) (line .ensures .1 .1)
+slice-aggregate-answer-planned-2 c = llrs-count (read (c .before .before))
 
 answer-planned-requires : tie.Need-answer-planned-requires
-answer-planned-requires c κs =
-    let bytes = c .before .before .before .before .before .before .before .before .before .before .before .args .bytes .now in
-    let line = c .before .before .before .before .before .before .read-line in
-    let zero-is = sym (line .ensures .0 .0) ∙ c .before .before .before .before .if1 .left in
-    line-fit bytes zero-is (line .last .1 .0) _ (line .last .1 .1 .0) _ _ _ (line .ensures .0 .1) (line .ensures .0 .2) (line .ensures .1 .0) (line .ensures .1 .1)
+answer-planned-requires c κs = line-fit (read (c .before .before .before))
 
 same-length-2 : tie.Need-same-length-2
 same-length-2 c = search needs
 
 returns-2 : tie.Need-returns-2
-returns-2 c =
-    let bytes = c .before .before .before .before .before .before .before .before .before .before .before .before .before .before .args .bytes .now in
-    let line = c .before .before .before .before .before .before .before .before .before .read-line in
-    let zero-is = sym (line .ensures .0 .0) ∙ c .before .before .before .before .before .before .before .if1 .left in
-    reprinted
-    (accepted-text bytes zero-is (line .last .1 .0) _ (line .last .1 .1 .0) _ _ _ (line .ensures .0 .1) (line .ensures .0 .2) (line .ensures .1 .0) (line .ensures .1 .1))
-    (omega arith)
-    (c .before .before .answer-planned .ensures)
+returns-2 c = reprinted (accepted-text (read (c .before .before .before .before .before .before))) (omega arith) (c .before .before .answer-planned .ensures)
 
 pub answer-spec : {M : Type 1} → statement M
 answer-spec =
@@ -84,7 +59,6 @@ answer-spec =
     print-refusal-requires
     same-length
     returns
-    cast-sweeps
     array-share-prefix-mask
     slice-aggregate-answer-planned
     array-share-prefix-llrs

@@ -79,7 +79,7 @@ returns c =
     let payload = d .last .1 .1 .1 .1 .1 .1 .0 in
     let k = c .before .before .before .before .before .before .before .unfrozen-of in
     let p = c .before .before .print-decoded .ensures in
-    let text = text-is (a .mask .now) (a .plan .now) (a .sweeps) (a .llrs .now) (start .pre .0) (start .pre .1) _ _ _ _ refl refl refl refl _ _ _ (d .ensures .0) soft hard payload _ (d .ensures .1) (k .result) (k .ensures) in
+    let text = text-is (a .mask .now) (a .plan .now) (a .sweeps) (a .llrs .now) (start .pre .0) (start .pre .1) _ (record { soft-size = refl; hard-size = refl; payload-size = refl; work-size = refl }) (d .ensures) (k .result) (k .ensures) in
     reprinted text (room-enough (length (a .mask .now)) (k .result) soft hard payload (d .kept .1 .1 .1 .1 .0) (d .kept .1 .1 .1 .1 .1 .0) (d .kept .1 .1 .1 .1 .1 .1 .0)) p
 
 pub answer-along-spec : {M : Type 1} → statement M
