@@ -4,7 +4,8 @@ use mathlib.Core.List.{List}
 use Prim.Native.Nat.{ℕ, _+_, _*_, _^_}
 use lib.ListN.{length}
 use Rattle.model.specs.Plans.{cycles, plannerPlan}
-use Rattle.model.specs.Refusals.{exponent, accepted, planNumber, planCounts, checkNumber, checkCycles, DecodeCall, decodeNumber, decodeCycles, decodeCheck}
+use Rattle.model.specs.Refusals.{exponent, accepted, planNumber, planCounts, checkNumber, checkCycles, decodeNumber, decodeCycles, decodeCheck}
+use Rattle.decode.specs.Calls.{Lent, Given, callOf, Left}
 
 -- a check of a plan: number + 256 × cycles of one sweep
 abbrev pub CheckAnswer : List ℕ → List ℕ → ℕ → Type 0
@@ -24,6 +25,7 @@ PlanAnswer mask room r = r ≡ planNumber mask room + 256 * planCycles mask room
 unfoldable pub hostCounts : List ℕ → ℕ → List ℕ → List ℕ
 hostCounts mask room counts = accepted (planNumber mask room) (planCounts mask room) counts
 
--- a decode: number + 256 × cycles + 2 ^ 40 × frozen check
-abbrev pub DecodeAnswer : DecodeCall → ℕ → Type 0
-DecodeAnswer c r = r ≡ decodeNumber c + 256 * decodeCycles c + 2 ^ 40 * decodeCheck c
+-- a decode: number + 256 × cycles + 2 ^ 40 × frozen check; and what it leaves in its buffers
+pub record DecodeAnswer (g : Given) (after : Lent) (r : ℕ) : Type 0 where
+  pub answer-is : r ≡ decodeNumber (callOf g) + 256 * decodeCycles (callOf g) + 2 ^ 40 * decodeCheck (callOf g)
+  pub left : Left g after

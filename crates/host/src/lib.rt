@@ -2,6 +2,7 @@
 use decode::decode;
 use encode::Encoded;
 use encode::encode;
+use kinds::KINDS;
 use planner::plan_mask;
 use plans::check_plan;
 use samples::Channel;
@@ -12,7 +13,7 @@ ghost use lib.ListN.{length};
 ghost use Rattle.model.specs.Refusals.{samplesNumber, samplesLlrs, encodeNumber, encodeWord, planBytes};
 ghost use Rattle.samples.specs.Cases as converted;
 ghost use Rattle.encode.specs.Answers as encoded;
-ghost use Rattle.decode.specs.Calls.{callOf, Written};
+ghost use Rattle.decode.specs.Calls.{lent, given};
 ghost use Rattle.host.specs.Answers.{CheckAnswer, PlanAnswer, hostCounts, DecodeAnswer};
 
 // The number of the samples call's answer.
@@ -78,7 +79,7 @@ pub extern "C" fn ruznavo_check_plan(mask: &[u8], plan: &[u8]) -> u64
 
 // The planner's plan, and the counts of its cut nodes by kind. The answer is number + 256 × cycles of one sweep.
 #[no_mangle]
-pub extern "C" fn ruznavo_plan(mask: &[u8], plan: &mut [u8], counts: &mut [u32; 6]) -> u64
+pub extern "C" fn ruznavo_plan(mask: &[u8], plan: &mut [u8], counts: &mut [u32; KINDS]) -> u64
     ensures { λ r. ⌜ PlanAnswer (now (mask .entry)) (length (now (plan .entry))) r ⌝ }
     ensures { λ _. ⌜ now (plan .exit) ≡ planBytes (now (mask .entry)) (now (plan .entry)) ⌝ }
     ensures { λ _. ⌜ now (counts .exit) ≡ hostCounts (now (mask .entry)) (length (now (plan .entry))) (now (counts .entry)) ⌝ }
@@ -106,8 +107,11 @@ pub extern "C" fn ruznavo_decode(
     payload: &mut [u8],
     work: &mut [i32],
 ) -> u64
-    ensures { λ r. ⌜ DecodeAnswer (callOf (now (mask .entry)) (now (plan .entry)) sweeps (now (llrs .entry)) (now (soft .entry)) (now (hard .entry)) (now (payload .entry)) (now (work .entry))) r ⌝ }
-    ensures { λ _. ⌜ Written (callOf (now (mask .entry)) (now (plan .entry)) sweeps (now (llrs .entry)) (now (soft .entry)) (now (hard .entry)) (now (payload .entry)) (now (work .entry))) (now (soft .entry)) (now (soft .exit)) (now (hard .entry)) (now (hard .exit)) (now (payload .entry)) (now (payload .exit)) (now (work .entry)) (now (work .exit)) ⌝ }
+    ensures { λ r. ⌜ DecodeAnswer
+        (given (now (mask .entry)) (now (plan .entry)) sweeps (now (llrs .entry))
+            (lent (now (soft .entry)) (now (hard .entry)) (now (payload .entry)) (now (work .entry))))
+        (lent (now (soft .exit)) (now (hard .exit)) (now (payload .exit)) (now (work .exit)))
+        r ⌝ }
 {
     let d = decode(mask, plan, sweeps, llrs, soft, hard, payload, work);
     d.number as u64 + 256 * d.cycles as u64 + 1099511627776 * d.check as u64
