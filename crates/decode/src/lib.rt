@@ -68,8 +68,10 @@ fn refused(number: u32) -> Tested
 fn count_tests(n: usize, llrs: usize, sweeps: usize) -> u32
     ensures { λ r. ⌜ r ≡ refusal (row-3 llrs n ∷ row-4 sweeps ∷ []) ⌝ }
 {
-    let fourth = tested(sweeps_fit(sweeps), 0, 4);
-    tested(llrs == n, fourth, 3)
+    let fit = sweeps_fit(sweeps);
+    let counted = llrs == n;
+    let fourth = tested(fit, 0, 4);
+    tested(counted, fourth, 3)
 }
 
 // Tests 1 to 7.
