@@ -18,7 +18,7 @@ use Rattle.model.proofs.Refusals.{exponent-power}
 use Rattle.model.proofs.Transform.{length-transform}
 use Rattle.words.specs.Words.{write}
 use Rattle.words.proofs.Store.{write-is}
-use Rattle.encode.specs.Answers.{transformNumber, transformBytes}
+use Rattle.transform.specs.Calls.{transformNumber, transformBytes}
 use Rattle.decisions.specs.Bits.{decisionAt}
 use Rattle.decisions.specs.Bits.{Sized, Readable, wordDecisions}
 use Rattle.decisions.proofs.Buffers.{length-over}

@@ -1,6 +1,7 @@
 // What is read off the soft values: hard bits, payload and frozen check.
-use encode::transform;
+use inputs::UNFROZEN;
 use inputs::larger;
+use transform::transform;
 use words::add_words;
 ghost use mathlib.Core.Path.{_≡_};
 ghost use mathlib.Core.Bool.{cond};
@@ -37,7 +38,7 @@ fn read_payload(mask: &[u8], u: &[u8], payload: &mut [u8])
     let mut i = 0;
     let mut j = 0;
     while i < mask.len() {
-        if mask[i] == 0 {
+        if mask[i] == UNFROZEN {
             payload[j] = u[i];
             j += 1;
         }
@@ -49,7 +50,7 @@ fn read_payload(mask: &[u8], u: &[u8], payload: &mut [u8])
 fn frozen_bit(byte: u8, b: u8) -> u8
     ensures { λ r. ⌜ r ≡ cond (isUnfrozen byte) 0 b ⌝ }
 {
-    if byte == 0 { 0 } else { b }
+    if byte == UNFROZEN { 0 } else { b }
 }
 
 // 1 exactly if the frozen bits of u are all 0.

@@ -20,6 +20,7 @@ use Rattle.model.proofs.Lists.{length-tabulate, tabulate-ext, double}
 use Rattle.model.proofs.Bounds.{soft-under, cap-limit, under-mono}
 use Rattle.model.proofs.Refusals.{refusal-then, passes, llrs-small}
 use Rattle.model.proofs.Theorems.{decision-bound, cycles-most}
+use Rattle.inputs.proofs.Rows.{passed-few}
 use Rattle.words.specs.Words.{word, softOf, write, stored, addWord, Added}
 use Rattle.words.proofs.Laws.{soft-fin, soft-word, word-in}
 use Rattle.words.proofs.Store.{write-in, length-write}
@@ -170,7 +171,7 @@ module _ (g : Given) where
       S = scan t mask (map finite llrs) k
 
       few : N ≤ 1024
-      few = let m : 2 ^ t ≤ 1024 = pow-mono (p .mask-passed .low) in omega (arith, p .mask-passed .sized)
+      few = passed-few (p .mask-passed)
 
       small : (j : ℕ) → natAbs (word llrs j) ≤ maxLlr
       small j = subst (Small maxLlr) (List·getD-map finite llrs j (pos 0)) (at-all j)
@@ -283,13 +284,8 @@ module _ (g : Given) where
 -- N(n + 3) words can be counted
 pub words-fit : {mask plan : List ℕ} {k : ℕ} {llrs : List ℤ} {cycles t : ℕ} → Passed mask plan k llrs cycles t → (t + 3 ≤ 13) × (length mask * (t + 3) ≤ 1024 * 13)
 words-fit {mask} {t = t} p =
-    let m : 2 ^ t ≤ 1024 = pow-mono (p .mask-passed .low) in
-    let few : length mask ≤ 1024 = omega (arith, p .mask-passed .sized) in
     let low : t + 3 ≤ 13 = omega (arith, p .mask-passed .low) in
-    (low, mul-le-mul few low)
-
-pub mask-few : {mask plan : List ℕ} {k : ℕ} {llrs : List ℤ} {cycles t : ℕ} → Passed mask plan k llrs cycles t → length mask ≤ 1024
-mask-few p = let m : 2 ^ _ ≤ 1024 = pow-mono (p .mask-passed .low) in omega (arith, p .mask-passed .sized)
+    (low, mul-le-mul (passed-few (p .mask-passed)) low)
 
 -- the cycles of one sweep are few
 pub cycles-small : {mask plan : List ℕ} {k : ℕ} {llrs : List ℤ} {cycles t : ℕ} → Passed mask plan k llrs cycles t → cycles ≤ 4096

@@ -131,7 +131,7 @@ pub fn decode(
 ) -> Decoded
     ensures { λ r. ⌜ Outcome
         (given (now (mask .entry)) (now (plan .entry)) sweeps (now (llrs .entry))
-            (lent (now (soft .entry)) (now (hard .entry)) (now (payload .entry)) (now (work .entry))))
+        (lent (now (soft .entry)) (now (hard .entry)) (now (payload .entry)) (now (work .entry))))
         (lent (now (soft .exit)) (now (hard .exit)) (now (payload .exit)) (now (work .exit)))
         (r .number) (r .cycles) (r .check) ⌝ }
 {

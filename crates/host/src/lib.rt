@@ -109,7 +109,7 @@ pub extern "C" fn ruznavo_decode(
 ) -> u64
     ensures { λ r. ⌜ DecodeAnswer
         (given (now (mask .entry)) (now (plan .entry)) sweeps (now (llrs .entry))
-            (lent (now (soft .entry)) (now (hard .entry)) (now (payload .entry)) (now (work .entry))))
+        (lent (now (soft .entry)) (now (hard .entry)) (now (payload .entry)) (now (work .entry))))
         (lent (now (soft .exit)) (now (hard .exit)) (now (payload .exit)) (now (work .exit)))
         r ⌝ }
 {

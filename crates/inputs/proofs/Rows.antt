@@ -2,11 +2,12 @@
 use mathlib.Core.Path.{_≡_, sym, _∙_, ap}
 use mathlib.Core.Bool.{Bool, true, cond, not}
 use mathlib.Core.List.{List, [], _∷_}
-use Prim.Native.Nat.{ℕ}
+use Prim.Native.Nat.{ℕ, _^_, _≤_}
 use native.Mathlib.Omega.{arith}
 use borrow.Author.Tests.{eq-eqb, ne-eqb, eqb-false, not-true}
 use lib.Dec.{T, eqb}
 use lib.ListN.{length}
+use lib.Pow.{pow-mono}
 use Rattle.model.specs.Lists.{atMost}
 use Rattle.model.specs.Encoding.{maxMask}
 use Rattle.model.specs.Refusals.{Test, refusal, row-1, row-2, exponent}
@@ -32,6 +33,10 @@ module _ (mask : List ℕ) {stage : ℕ} (e : stage ≡ exponent (length mask)) 
 
   pub mask-tests : {bytes : Bool} {second number : ℕ} → bytes ≡ atMost maxMask mask → second ≡ cond bytes 0 2 → number ≡ cond (not (eqb stage 0)) second 1 → MaskTests mask number stage
   mask-tests b s q = record { number-is = number-found b s q; passed = λ z. mask-passed (sym (number-found b s q) ∙ z) }
+
+-- N is at most 1024
+pub passed-few : {mask : List ℕ} {stage : ℕ} → MaskPassed mask stage → length mask ≤ 1024
+passed-few {mask} {stage} p = let m : 2 ^ stage ≤ 1024 = pow-mono (p .low) in omega (arith, p .sized)
 
 -- the other rows follow
 module _ {mask : List ℕ} {number stage : ℕ} (m : MaskTests mask number stage) (rows : List Test) where

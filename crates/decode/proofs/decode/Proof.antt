@@ -6,11 +6,12 @@ use native.Mathlib.Omega.{arith}
 use lib.ListN.{length}
 use borrow.Author.Needs.{needs}
 use Rattle.model.specs.Refusals.{decodeNumber, maxSweeps}
+use Rattle.inputs.proofs.Rows.{passed-few}
 use Rattle.scan.specs.Space.{Decodable, withLlrs}
 use Rattle.scan.proofs.Rounds.{cleared}
 use Rattle.decode.specs.Calls.{lent, Given, given, callOf}
 use Rattle.decode.specs.Steps.{Passed}
-use Rattle.decode.proofs.Answers.{roomNumber, number-input, number-room, room-is, refused-outcome, mask-few, words-fit, decodable, readable, accepted-outcome, cycles-small}
+use Rattle.decode.proofs.Answers.{roomNumber, number-input, number-room, room-is, refused-outcome, words-fit, decodable, readable, accepted-outcome, cycles-small}
 use Rattle.decode.proofs.decode.Statement.{statement}
 use Rattle.decode.proofs.decode.Tie as tie
 
@@ -63,7 +64,7 @@ mul-words : tie.Need-mul-words
 mul-words c = let fit = words-fit (passed c) in record { fits = omega arith }
 
 unfrozen-of-requires : tie.Need-unfrozen-of-requires
-unfrozen-of-requires c κs = mask-few (passed c)
+unfrozen-of-requires c κs = passed-few (passed c .mask-passed)
 
 room-tests-requires : tie.Need-room-tests-requires
 room-tests-requires c κs = search needs

@@ -1,13 +1,13 @@
--- `encode::stride` meets its contract: each arm passes on the stride that it tested for. Assumes nothing.
+-- `transform::stride` meets its contract: each arm passes on the stride that it tested for. Assumes nothing.
 use mathlib.Core.Path.{_≡_, sym, _∙_, ap, subst}
 use mathlib.Core.List.{List}
 use Prim.Native.Nat.{ℕ, _*_, _/_, _%_, _≤_}
 use native.Mathlib.Omega.{arith}
 use borrow.Author.Needs.{needs}
 use lib.ListN.{length}
-use Rattle.encode.specs.Steps.{addHalves}
-use Rattle.encode.proofs.stride.Statement.{statement}
-use Rattle.encode.proofs.stride.Tie as tie
+use Rattle.transform.specs.Steps.{addHalves}
+use Rattle.transform.proofs.stride.Statement.{statement}
+use Rattle.transform.proofs.stride.Tie as tie
 
 -- the list has `count` blocks at stride h
 abbrev Whole : List ℕ → ℕ → ℕ → Type 0

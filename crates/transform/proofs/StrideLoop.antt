@@ -8,8 +8,8 @@ use lib.ListN.{length}
 use lib.Pow.{pow-add, pow-mono}
 use Rattle.model.specs.Encoding.{transform}
 use Rattle.model.proofs.Lists.{double}
-use Rattle.encode.specs.Steps.{AllBits, addHalves}
-use Rattle.encode.proofs.Blocks.{blocks, blocks-start, blocks-end, add-halves-step}
+use Rattle.transform.specs.Steps.{AllBits, addHalves}
+use Rattle.transform.proofs.Blocks.{blocks, blocks-start, blocks-end, add-halves-step}
 
 -- u has become v
 pub record Strided (n t h count : ℕ) (u v : List ℕ) : Type 0 where

@@ -13,7 +13,7 @@ use Rattle.model.specs.Lists.{tabulate}
 use Rattle.model.specs.Encoding.{_⊕_, transform}
 use Rattle.model.proofs.Lists.{double, length-tabulate, getD-tabulate, tabulate-ext}
 use Rattle.model.proofs.Transform.{transform-zero, transform-halves, length-transform, transform-bit, upper, lower}
-use Rattle.encode.specs.Steps.{lowBits, AllBits, addHalf, addHalves}
+use Rattle.transform.specs.Steps.{lowBits, AllBits, addHalf, addHalves}
 
 xor-bits : (a b : ℕ) → a ≤ 1 → b ≤ 1 → bitXor a b ≡ a ⊕ b
 xor-bits a b p q = go (bitXor a b) (bitAnd a b) (xor-add-and a b) (xor-lt 1 a b (omega arith) (omega arith))

@@ -1,4 +1,4 @@
--- `encode::add_halves` meets its contract. The loop's invariant: the bits before `from` are done, and the blocks that are left give the rest. Assumes nothing.
+-- `transform::add_halves` meets its contract. The loop's invariant: the bits before `from` are done, and the blocks that are left give the rest. Assumes nothing.
 use mathlib.Core.Path.{_≡_, refl, sym, _∙_}
 use mathlib.Core.List.{_++_}
 use Prim.Native.Nat.{ℕ, _+_, _-_, _*_, _≤_, _<_}
@@ -7,10 +7,10 @@ use borrow.Author.Needs.{needs}
 use borrow.Rule.Slice.PartMut.{same-len-mid}
 use lib.ListN.{length, take, drop, length-drop}
 use lib.Seq.{length-take-le}
-use Rattle.encode.specs.Steps.{addHalves}
-use Rattle.encode.proofs.Blocks.{one-more, add-halves-more, add-halves-end}
-use Rattle.encode.proofs.add_halves.Statement.{statement}
-use Rattle.encode.proofs.add_halves.Tie as tie
+use Rattle.transform.specs.Steps.{addHalves}
+use Rattle.transform.proofs.Blocks.{one-more, add-halves-more, add-halves-end}
+use Rattle.transform.proofs.add_halves.Statement.{statement}
+use Rattle.transform.proofs.add_halves.Tie as tie
 
 width : (a b : ℕ) → a + b - a ≡ b
 width a b = omega arith

@@ -1,14 +1,14 @@
--- `encode::add_pairs` meets its contract. The loop's invariant: the places before k - 1 are done, and the others are as they were. Assumes nothing.
+-- `transform::add_pairs` meets its contract. The loop's invariant: the places before k - 1 are done, and the others are as they were. Assumes nothing.
 use Prim.Native.Nat.{ℕ, _+_, _*_, _-_, _/_, _%_, _≤_}
 use native.Mathlib.Omega.{arith}
 use mathlib.Core.Path.{_≡_, sym, _∙_, ap, ap₂, subst}
 use borrow.Author.Needs.{needs}
 use lib.Bits.{bitXor}
 use lib.ListN.{length, getD}
-use Rattle.encode.proofs.Filled.{Filled, filled-none, filled-more, filled-read}
-use Rattle.encode.proofs.Pairs.{pairs, pairs-odd, pairs-all, rest-kept, bounded}
-use Rattle.encode.proofs.add_pairs.Statement.{statement}
-use Rattle.encode.proofs.add_pairs.Tie as tie
+use Rattle.transform.proofs.Filled.{Filled, filled-none, filled-more, filled-read}
+use Rattle.transform.proofs.Pairs.{pairs, pairs-odd, pairs-all, rest-kept, bounded}
+use Rattle.transform.proofs.add_pairs.Statement.{statement}
+use Rattle.transform.proofs.add_pairs.Tie as tie
 
 abbrev Inv-loop : tie.InvT-loop
 Inv-loop bits₀ k₀ bits k = (1 ≤ k) × Filled (pairs bits₀) bits₀ bits (k - 1)

@@ -7,7 +7,7 @@ use native.Mathlib.Omega.{arith}
 use lib.Bits.{bitXor, xor-zero-r}
 use lib.ListN.{length, getD, drop}
 use Rattle.model.specs.Lists.{tabulate}
-use Rattle.encode.specs.Steps.{addHalf, addHalves}
+use Rattle.transform.specs.Steps.{addHalf, addHalves}
 
 abbrev pub pairs : List ℕ → ℕ → ℕ
 pairs u j = bitXor (getD u j 0) ((j + 1) % 2 * getD u (j + 1) 0)

@@ -1,11 +1,11 @@
--- `encode::strides` meets its contract. The loop's invariant: before stride h, which is 2 ^ t, the list is blocks of h bits, each transformed. Assumes nothing.
+-- `transform::strides` meets its contract. The loop's invariant: before stride h, which is 2 ^ t, the list is blocks of h bits, each transformed. Assumes nothing.
 use mathlib.Core.Path.{sym, _∙_}
 use Prim.Native.Nat.{_-_, _/_}
 use native.Mathlib.Omega.{arith}
 use borrow.Author.Needs.{needs}
-use Rattle.encode.proofs.StrideLoop.{Strided, Halved, halved, strided-none, strided-more, strided-all}
-use Rattle.encode.proofs.strides.Statement.{statement}
-use Rattle.encode.proofs.strides.Tie as tie
+use Rattle.transform.proofs.StrideLoop.{Strided, Halved, halved, strided-none, strided-more, strided-all}
+use Rattle.transform.proofs.strides.Statement.{statement}
+use Rattle.transform.proofs.strides.Tie as tie
 
 abbrev Inv-loop : tie.InvT-loop
 Inv-loop bits₀ n h₀ count₀ t₀ bits h count t = Strided n t h count bits₀ bits

@@ -1,0 +1,5 @@
+pub mod Filled
+pub mod Blocks
+pub mod StrideLoop
+pub mod Pairs
+pub mod Answers
