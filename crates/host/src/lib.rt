@@ -1,34 +1,16 @@
 // The library for a C host: numbers, and slices of bytes, words and samples. Each answer is one number.
 use decode::decode;
-use encode::Encoded;
 use encode::encode;
 use kinds::KINDS;
 use planner::plan_mask;
 use plans::check_plan;
 use samples::Channel;
-use samples::Converted;
 use samples::samples_to_llrs;
 ghost use mathlib.Core.Path.{_≡_};
 ghost use lib.ListN.{length};
 ghost use Rattle.model.specs.Refusals.{samplesNumber, samplesLlrs, encodeNumber, encodeWord, planBytes};
-ghost use Rattle.samples.specs.Cases as converted;
-ghost use Rattle.encode.specs.Answers as encoded;
 ghost use Rattle.decode.specs.Calls.{lent, given};
 ghost use Rattle.host.specs.Answers.{CheckAnswer, PlanAnswer, hostCounts, DecodeAnswer};
-
-// The number of the samples call's answer.
-fn converted_number(c: Converted) -> u64
-    ensures { λ r. ⌜ r ≡ converted.numberOf c ⌝ }
-{
-    match c {
-        Converted::Done => 0,
-        Converted::BadLength => 1,
-        Converted::BadMarks => 3,
-        Converted::BadVariance => 8,
-        Converted::BadSample => 9,
-        Converted::ShortOutput => 11,
-    }
-}
 
 // Samples to LLRs, at the noise variance. The answer is the number.
 #[no_mangle]
@@ -42,21 +24,7 @@ pub extern "C" fn ruznavo_samples(
     ensures { λ _. ⌜ now (llrs .exit) ≡ samplesLlrs (now (samples .entry)) (now (marks .entry)) variance (now (llrs .entry)) ⌝ }
 {
     let channel = Channel { variance };
-    converted_number(samples_to_llrs(samples, marks, channel, llrs))
-}
-
-// The number of the encoder's answer.
-fn encoded_number(c: Encoded) -> u64
-    ensures { λ r. ⌜ r ≡ encoded.numberOf c ⌝ }
-{
-    match c {
-        Encoded::Done => 0,
-        Encoded::BadLength => 1,
-        Encoded::BadMask => 2,
-        Encoded::BadCount => 3,
-        Encoded::BadPayload => 10,
-        Encoded::ShortOutput => 11,
-    }
+    samples_to_llrs(samples, marks, channel, llrs) as u64
 }
 
 // The word of a payload. The answer is the number.
@@ -65,7 +33,7 @@ pub extern "C" fn ruznavo_encode(mask: &[u8], payload: &[u8], word: &mut [u8]) -
     ensures { λ r. ⌜ r ≡ encodeNumber (now (mask .entry)) (now (payload .entry)) (length (now (word .entry))) ⌝ }
     ensures { λ _. ⌜ now (word .exit) ≡ encodeWord (now (mask .entry)) (now (payload .entry)) (now (word .entry)) ⌝ }
 {
-    encoded_number(encode(mask, payload, word))
+    encode(mask, payload, word) as u64
 }
 
 // A check of a plan. The answer is number + 256 × cycles of one sweep.

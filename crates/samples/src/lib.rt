@@ -8,7 +8,7 @@ ghost use lib.Ieee.{nan};
 ghost use Rattle.model.specs.Lists.{over};
 ghost use Rattle.model.specs.Samples.{toLlr, llrOf, llrsOf, positionOf, isFinite, isVariance, isReadable, allReadable};
 ghost use Rattle.model.specs.Refusals.{samplesNumber, samplesLlrs};
-ghost use Rattle.samples.specs.Cases.{positionNamed, numberOf, wholeOf};
+ghost use Rattle.samples.specs.Cases.{positionNamed, wholeOf};
 
 // A received position.
 pub enum Position {
@@ -20,16 +20,6 @@ pub enum Position {
 // A channel setting: the noise variance.
 pub struct Channel {
     pub variance: f32,
-}
-
-// What the samples call answers. `numberOf` in specs/ gives the number of each case.
-pub enum Converted {
-    Done,
-    BadLength,
-    BadMarks,
-    BadVariance,
-    BadSample,
-    ShortOutput,
 }
 
 // The whole number nearest to x, a half going up, and at most 32767; 0 where x is not above zero.
@@ -154,31 +144,26 @@ fn fill(samples: &[f32], marks: &[u8], channel: Channel, llrs: &mut [i16])
     }
 }
 
-// Samples to LLRs. The number of samples is N; marks are 0 sent, 1 punctured, 2 shortened.
-pub fn samples_to_llrs(
-    samples: &[f32],
-    marks: &[u8],
-    channel: Channel,
-    llrs: &mut [i16],
-) -> Converted
-    ensures { λ r. ⌜ numberOf r ≡ samplesNumber (now (samples .entry)) (now (marks .entry)) (channel .variance) (length (now (llrs .entry))) ⌝ }
+// Samples to LLRs. The number of samples is N; marks are 0 sent, 1 punctured, 2 shortened. The answer is the number.
+pub fn samples_to_llrs(samples: &[f32], marks: &[u8], channel: Channel, llrs: &mut [i16]) -> u32
+    ensures { λ r. ⌜ r ≡ samplesNumber (now (samples .entry)) (now (marks .entry)) (channel .variance) (length (now (llrs .entry))) ⌝ }
     ensures { λ _. ⌜ now (llrs .exit) ≡ samplesLlrs (now (samples .entry)) (now (marks .entry)) (channel .variance) (now (llrs .entry)) ⌝ }
 {
     if inputs::exponent_of(samples.len()) == 0 {
-        return Converted::BadLength;
+        return 1;
     }
     if marks.len() != samples.len() {
-        return Converted::BadMarks;
+        return 3;
     }
     if !variance(channel.variance) {
-        return Converted::BadVariance;
+        return 8;
     }
     if !all_readable(marks, samples) {
-        return Converted::BadSample;
+        return 9;
     }
     if llrs.len() < samples.len() {
-        return Converted::ShortOutput;
+        return 11;
     }
     fill(samples, marks, channel, llrs);
-    Converted::Done
+    0
 }
