@@ -17,21 +17,21 @@ decisionAt llrs soft k = hardBit (plus (softOf (word llrs k)) (softOf (word soft
 
 -- the hard word from LLRs and words
 abbrev pub wordDecisions : List ℤ → List ℤ → ℕ → List ℕ
-wordDecisions llrs soft n = tabulate n (decisionAt llrs soft)
+wordDecisions llrs soft N = tabulate N (decisionAt llrs soft)
 
--- room for a word of n bits
-pub record Sized (n from to : ℕ) : Type 0 where
-  pub length-allowed : exponent n ≡ 0 → ⊥
-  pub from-room : n ≤ from
-  pub to-room : n ≤ to
+-- room for a word of N bits
+pub record Sized (N from to : ℕ) : Type 0 where
+  pub length-allowed : exponent N ≡ 0 → ⊥
+  pub from-room : N ≤ from
+  pub to-room : N ≤ to
 
 -- what reading off requires: the lengths of the lists, room for the results, and sums that are words
-pub record Readable (mask : List ℕ) (llrs soft : List ℤ) (n hard payload : ℕ) : Type 0 where
-  pub length-allowed : exponent n ≡ 0 → ⊥
-  pub few : n ≤ 1024
-  pub positions : length mask ≡ n
-  pub values : n ≤ length llrs
-  pub softs : n ≤ length soft
-  pub bits : n ≤ hard
+pub record Readable (mask : List ℕ) (llrs soft : List ℤ) (N hard payload : ℕ) : Type 0 where
+  pub length-allowed : exponent N ≡ 0 → ⊥
+  pub few : N ≤ 1024
+  pub positions : length mask ≡ N
+  pub values : N ≤ length llrs
+  pub softs : N ≤ length soft
+  pub bits : N ≤ hard
   pub payload-room : unfrozen mask ≤ payload
-  pub sums : (k : ℕ) → k < n → Added (word llrs k) (word soft k)
+  pub sums : (k : ℕ) → k < N → Added (word llrs k) (word soft k)

@@ -15,13 +15,13 @@ ghost use Rattle.words.specs.Words.{word, write, Added};
 ghost use Rattle.decisions.specs.Bits.{decisionAt, wordDecisions, Sized, Readable};
 
 // The hard bits: 1 exactly if LLR plus soft is negative.
-fn decide(llrs: &[i16], soft: &[i32], hard: &mut [u8], n: usize)
-    requires { ⌜ (n ≤ length (now llrs)) × (n ≤ length (now soft)) × (n ≤ length (now hard)) ⌝ }
-    requires { ⌜ ((k : ℕ) → k < n → Added (word (now llrs) k) (word (now soft) k)) ⌝ }
-    ensures { λ _. ⌜ now (hard .exit) ≡ write (now (hard .entry)) 0 n (decisionAt (now (llrs .entry)) (now (soft .entry))) ⌝ }
+fn decide(llrs: &[i16], soft: &[i32], hard: &mut [u8], size: usize)
+    requires { ⌜ (size ≤ length (now llrs)) × (size ≤ length (now soft)) × (size ≤ length (now hard)) ⌝ }
+    requires { ⌜ ((k : ℕ) → k < size → Added (word (now llrs) k) (word (now soft) k)) ⌝ }
+    ensures { λ _. ⌜ now (hard .exit) ≡ write (now (hard .entry)) 0 size (decisionAt (now (llrs .entry)) (now (soft .entry))) ⌝ }
 {
     let mut k = 0;
-    while k < n {
+    while k < size {
         let llr = llrs[k] as i32;
         let value = soft[k];
         let sum = add_words(llr, value);
@@ -68,24 +68,24 @@ fn frozen_check(mask: &[u8], u: &[u8]) -> u8
 }
 
 // The first n bytes of `from` to the front of `to`.
-fn copy_bytes(from: &[u8], to: &mut [u8], n: usize)
-    requires { ⌜ (n ≤ length (now from)) × (n ≤ length (now to)) ⌝ }
-    ensures { λ _. ⌜ now (to .exit) ≡ over (take n (now (from .entry))) (now (to .entry)) ⌝ }
+fn copy_bytes(from: &[u8], to: &mut [u8], size: usize)
+    requires { ⌜ (size ≤ length (now from)) × (size ≤ length (now to)) ⌝ }
+    ensures { λ _. ⌜ now (to .exit) ≡ over (take size (now (from .entry))) (now (to .entry)) ⌝ }
 {
     let mut i = 0;
-    while i < n {
+    while i < size {
         to[i] = from[i];
         i += 1;
     }
 }
 
 // The decoded u, to the front of u: the transform of the hard word of n bits.
-fn decoded_bits(hard: &[u8], u: &mut [u8], n: usize)
-    requires { ⌜ Sized n (length (now hard)) (length (now u)) ⌝ }
-    ensures { λ _. ⌜ now (u .exit) ≡ over (encoding.transform (exponent n) (take n (now (hard .entry)))) (now (u .entry)) ⌝ }
+fn decoded_bits(hard: &[u8], u: &mut [u8], size: usize)
+    requires { ⌜ Sized size (length (now hard)) (length (now u)) ⌝ }
+    ensures { λ _. ⌜ now (u .exit) ≡ over (encoding.transform (exponent size) (take size (now (hard .entry)))) (now (u .entry)) ⌝ }
 {
-    copy_bytes(hard, u, n);
-    transform(&mut u[..n]);
+    copy_bytes(hard, u, size);
+    transform(&mut u[..size]);
 }
 
 // Hard bits and payload from the soft values' words; answers the frozen check.
@@ -95,16 +95,16 @@ pub fn read_off(
     soft: &[i32],
     hard: &mut [u8],
     payload: &mut [u8],
-    n: usize,
+    size: usize,
 ) -> u8
-    requires { ⌜ Readable (now mask) (now llrs) (now soft) n (length (now hard)) (length (now payload)) ⌝ }
-    ensures { λ r. ⌜ r ≡ bit (frozenZero (now (mask .entry)) (encoding.transform (exponent n) (wordDecisions (now (llrs .entry)) (now (soft .entry)) n))) ⌝ }
-    ensures { λ _. ⌜ now (hard .exit) ≡ over (wordDecisions (now (llrs .entry)) (now (soft .entry)) n) (now (hard .entry)) ⌝ }
-    ensures { λ _. ⌜ now (payload .exit) ≡ over (payloadOf (now (mask .entry)) (encoding.transform (exponent n) (wordDecisions (now (llrs .entry)) (now (soft .entry)) n))) (now (payload .entry)) ⌝ }
+    requires { ⌜ Readable (now mask) (now llrs) (now soft) size (length (now hard)) (length (now payload)) ⌝ }
+    ensures { λ r. ⌜ r ≡ bit (frozenZero (now (mask .entry)) (encoding.transform (exponent size) (wordDecisions (now (llrs .entry)) (now (soft .entry)) size))) ⌝ }
+    ensures { λ _. ⌜ now (hard .exit) ≡ over (wordDecisions (now (llrs .entry)) (now (soft .entry)) size) (now (hard .entry)) ⌝ }
+    ensures { λ _. ⌜ now (payload .exit) ≡ over (payloadOf (now (mask .entry)) (encoding.transform (exponent size) (wordDecisions (now (llrs .entry)) (now (soft .entry)) size))) (now (payload .entry)) ⌝ }
 {
-    decide(llrs, soft, hard, n);
+    decide(llrs, soft, hard, size);
     let mut u = [0u8; 1024];
-    decoded_bits(hard, &mut u, n);
+    decoded_bits(hard, &mut u, size);
     read_payload(mask, &u, payload);
     frozen_check(mask, &u)
 }

@@ -65,11 +65,11 @@ fn refused(number: u32) -> Tested
 }
 
 // Tests 3 and 4, for N.
-fn count_tests(n: usize, llrs: usize, sweeps: usize) -> u32
-    ensures { λ r. ⌜ r ≡ refusal (row-3 llrs n ∷ row-4 sweeps ∷ []) ⌝ }
+fn count_tests(size: usize, llrs: usize, sweeps: usize) -> u32
+    ensures { λ r. ⌜ r ≡ refusal (row-3 llrs size ∷ row-4 sweeps ∷ []) ⌝ }
 {
     let fit = sweeps_fit(sweeps);
-    let counted = llrs == n;
+    let counted = llrs == size;
     let fourth = tested(fit, 0, 4);
     tested(counted, fourth, 3)
 }
@@ -102,7 +102,7 @@ fn input_tests(mask: &[u8], plan: &[u8], sweeps: usize, llrs: &[i16]) -> Tested
 
 // Tests 11 and 12, for N and K.
 fn room_tests(
-    n: usize,
+    size: usize,
     k: usize,
     words: usize,
     soft: usize,
@@ -110,12 +110,12 @@ fn room_tests(
     payload: usize,
     work: usize,
 ) -> u32
-    ensures { λ r. ⌜ r ≡ refusal (row-11 n soft ∷ row-11 n hard ∷ row-11 k payload ∷ row-12 words work ∷ []) ⌝ }
+    ensures { λ r. ⌜ r ≡ refusal (row-11 size soft ∷ row-11 size hard ∷ row-11 k payload ∷ row-12 words work ∷ []) ⌝ }
 {
     let last = tested(words <= work, 0, 12);
     let third = tested(k <= payload, last, 11);
-    let second = tested(n <= hard, third, 11);
-    tested(n <= soft, second, 11)
+    let second = tested(size <= hard, third, 11);
+    tested(size <= soft, second, 11)
 }
 
 // Decodes LLRs along an allowed plan. The answer is that of SCAN walked to the last leaf, whichever allowed plan it is given.
@@ -139,12 +139,12 @@ pub fn decode(
     if input.number != 0 {
         return answer(input.number, 0, 0);
     }
-    let n = mask.len();
-    let t = input.stage;
-    let words = n * (t + 3);
+    let size = mask.len();
+    let stage = input.stage;
+    let words = size * (stage + 3);
     let k = unfrozen_of(mask);
     let short = room_tests(
-        n,
+        size,
         k,
         words,
         soft.len(),
@@ -155,9 +155,9 @@ pub fn decode(
     if short != 0 {
         return answer(short, 0, 0);
     }
-    soft_values(mask, plan, llrs, sweeps, n, t, soft, work);
+    soft_values(mask, plan, llrs, sweeps, size, stage, soft, work);
     fill(work, 0, words, 0);
-    let check = read_off(mask, llrs, soft, hard, payload, n);
+    let check = read_off(mask, llrs, soft, hard, payload, size);
     let cycles = sweeps as u32 * input.cycles;
     answer(0, cycles, check)
 }

@@ -39,11 +39,11 @@ fn place_bits(mask: &[u8], payload: &[u8], word: &mut [u8])
 }
 
 // Tests 3, 10 and 11, for N and K.
-fn payload_tests(n: usize, k: usize, payload: &[u8], room: usize) -> u32
-    ensures { λ r. ⌜ r ≡ refusal (row-3 (length (now (payload .entry))) k ∷ row-10 (now (payload .entry)) ∷ row-11 n room ∷ []) ⌝ }
+fn payload_tests(size: usize, k: usize, payload: &[u8], room: usize) -> u32
+    ensures { λ r. ⌜ r ≡ refusal (row-3 (length (now (payload .entry))) k ∷ row-10 (now (payload .entry)) ∷ row-11 size room ∷ []) ⌝ }
 {
     let bits = at_most(payload, 1);
-    let last = tested(n <= room, 0, 11);
+    let last = tested(size <= room, 0, 11);
     let tenth = tested(bits, last, 10);
     tested(payload.len() == k, tenth, 3)
 }

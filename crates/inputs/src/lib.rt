@@ -29,13 +29,13 @@ pub fn both(a: bool, b: bool) -> bool
 }
 
 // The exponent of a power of two from 2 to 1024, and 0 for any other number.
-pub fn exponent_of(n: usize) -> usize
-    ensures { λ r. ⌜ r ≡ exponent n ⌝ }
+pub fn exponent_of(size: usize) -> usize
+    ensures { λ r. ⌜ r ≡ exponent size ⌝ }
 {
     let mut t: usize = 10;
     let mut power: usize = 1024;
     while 0 < t {
-        if n == power {
+        if size == power {
             return t;
         }
         t -= 1;

@@ -33,12 +33,12 @@ fn answer_along(mask: &[u8], plan: &[u8], sweeps: usize, llrs: &[i16], out: &mut
         &mut payload,
         &mut work,
     );
-    let n = mask.len();
+    let size = mask.len();
     let k = unfrozen_of(mask);
     print_decoded(
         d.cycles,
-        &soft[..n],
-        &hard[..n],
+        &soft[..size],
+        &hard[..size],
         &payload[..k],
         d.check,
         out,
@@ -66,6 +66,6 @@ pub fn answer(bytes: &[u8], out: &mut [u8]) -> usize
     if line.number != 0 {
         return print_refusal(line.number, out);
     }
-    let n = line.size;
-    answer_planned(&mask[..n], line.sweeps, &llrs[..n], out)
+    let size = line.size;
+    answer_planned(&mask[..size], line.sweeps, &llrs[..size], out)
 }

@@ -17,7 +17,7 @@ slice-aggregate-transform : tie.Need-slice-aggregate-transform
 slice-aggregate-transform c =
     let start = c .before .before .before .before .before .before .before in
     let copy = c .before .before .before in
-    sym (length-take-le (start .args .n) (copy .copy-bytes .last .1 .0) (omega (arith, start .pre .to-room, copy .copy-bytes .kept .1 .0)))
+    sym (length-take-le (start .args .size) (copy .copy-bytes .last .1 .0) (omega (arith, start .pre .to-room, copy .copy-bytes .kept .1 .0)))
 
 transform-requires : tie.Need-transform-requires
 transform-requires c κs = search needs
@@ -30,7 +30,7 @@ returns c =
     let start = c .before .before .before .before .before .before .before .before .before .before in
     let a = start .args in
     let copy = c .before .before .before .before .before .before in
-    bits-law (a .hard .now) (a .u .now) (copy .copy-bytes .last .1 .0) (c .before .before .transform .last .0) (a .n) (start .pre) (copy .copy-bytes .ensures) (c .before .before .transform .ensures .1)
+    bits-law (a .hard .now) (a .u .now) (copy .copy-bytes .last .1 .0) (c .before .before .transform .last .0) (a .size) (start .pre) (copy .copy-bytes .ensures) (c .before .before .transform .ensures .1)
 
 pub decoded-bits-spec : {M : Type 1} → statement M
 decoded-bits-spec =

@@ -63,9 +63,9 @@ returns c =
     let dec = c .before .before .before .before .before .before .before .before .before .before .before .before .before .decide in
     let bits = c .before .before .before .before .before .before .before .before .decoded-bits in
     let pay = c .before .before .before .before .read-payload in
-    let payload-is = payload-law (a .mask .now) (a .llrs .now) (a .soft .now) (a .hard .now) (a .payload .now) (dec .last .1 .1 .0) _ (a .n) can (dec .ensures) (bits .last .1 .0) (bits .ensures) in
-    let check-is = check-law (a .mask .now) (a .llrs .now) (a .soft .now) (a .hard .now) (a .payload .now) (dec .last .1 .1 .0) _ (a .n) can (dec .ensures) (bits .last .1 .0) (bits .ensures) in
-    let hard-is = hard-law (a .mask .now) (a .llrs .now) (a .soft .now) (a .hard .now) (a .payload .now) (dec .last .1 .1 .0) _ (a .n) can (dec .ensures) (bits .last .1 .0) (bits .ensures) in
+    let payload-is = payload-law (a .mask .now) (a .llrs .now) (a .soft .now) (a .hard .now) (a .payload .now) (dec .last .1 .1 .0) _ (a .size) can (dec .ensures) (bits .last .1 .0) (bits .ensures) in
+    let check-is = check-law (a .mask .now) (a .llrs .now) (a .soft .now) (a .hard .now) (a .payload .now) (dec .last .1 .1 .0) _ (a .size) can (dec .ensures) (bits .last .1 .0) (bits .ensures) in
+    let hard-is = hard-law (a .mask .now) (a .llrs .now) (a .soft .now) (a .hard .now) (a .payload .now) (dec .last .1 .1 .0) _ (a .size) can (dec .ensures) (bits .last .1 .0) (bits .ensures) in
     (c .frozen-check .ensures ∙ ap bit check-is, (hard-is, pay .ensures ∙ ap (λ (l : List ℕ). over l (a .payload .now)) payload-is))
 
 pub read-off-spec : {M : Type 1} → statement M

@@ -22,7 +22,7 @@ unfolding refusal
 returns c =
     let a = c .before .before .before .args in
     let fourth = c .before .tested .ensures ∙ ap (λ (b : Bool). cond b 0 4) (c .before .before .sweeps-fit .ensures) in
-    c .tested2 .ensures ∙ ap (λ (r : ℕ). cond (eqb (a .llrs) (a .n)) r 3) fourth
+    c .tested2 .ensures ∙ ap (λ (r : ℕ). cond (eqb (a .llrs) (a .size)) r 3) fourth
 
 pub count-tests-spec : {M : Type 1} → statement M
 count-tests-spec =

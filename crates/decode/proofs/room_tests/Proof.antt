@@ -25,8 +25,8 @@ unfolding refusal
 returns c =
     let a = c .before .before .before .before .args in
     let third = c .before .before .tested2 .ensures ∙ ap (λ (r : ℕ). cond (leb (a .k) (a .payload)) r 11) (c .before .before .before .tested .ensures) in
-    let second = c .before .tested3 .ensures ∙ ap (λ (r : ℕ). cond (leb (a .n) (a .hard)) r 11) third in
-    c .tested4 .ensures ∙ ap (λ (r : ℕ). cond (leb (a .n) (a .soft)) r 11) second
+    let second = c .before .tested3 .ensures ∙ ap (λ (r : ℕ). cond (leb (a .size) (a .hard)) r 11) third in
+    c .tested4 .ensures ∙ ap (λ (r : ℕ). cond (leb (a .size) (a .soft)) r 11) second
 
 pub room-tests-spec : {M : Type 1} → statement M
 room-tests-spec =

@@ -19,7 +19,7 @@ loop-holds c = (search needs, refl, refl)
 returns : tie.Need-returns Inv-loop μ-loop
 returns c =
     let l = c .before .before in
-    sym (l .loop .inv .2 ∙ exponent-here (l .loop .t) (l .before .args .n) (l .loop .power) (search needs) (l .loop .inv .1) (c .if1 .taken))
+    sym (l .loop .inv .2 ∙ exponent-here (l .loop .t) (l .before .args .size) (l .loop .power) (search needs) (l .loop .inv .1) (c .if1 .taken))
 
 sub-t : tie.Need-sub-t Inv-loop μ-loop
 sub-t c = search needs
@@ -30,13 +30,13 @@ loop-less c = search needs
 loop-again : tie.Need-loop-again Inv-loop μ-loop
 loop-again c =
     let l = c .before .before in
-    let below = exponent-below (l .loop .t) (l .before .args .n) (l .loop .power) (search needs) (l .loop .inv .1) (c .if1 .left) in
+    let below = exponent-below (l .loop .t) (l .before .args .size) (l .loop .power) (search needs) (l .loop .inv .1) (c .if1 .left) in
     (search needs, below .1, l .loop .inv .2 ∙ below .0)
 
 returns-2 : tie.Need-returns-2 Inv-loop μ-loop
 returns-2 c =
     let l = c .before in
-    sym (l .loop .inv .2 ∙ exponent-none (l .loop .t) (l .before .args .n) (search needs))
+    sym (l .loop .inv .2 ∙ exponent-none (l .loop .t) (l .before .args .size) (search needs))
 
 pub exponent-of-spec : {M : Type 1} → statement M
 exponent-of-spec = tie.close (tie.spec Inv-loop μ-loop loop-holds returns sub-t loop-less loop-again returns-2)
