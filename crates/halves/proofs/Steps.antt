@@ -1,13 +1,28 @@
--- The right child's incoming list: boxes first, and then the part that starts at c is added to them. Assumes nothing.
+-- What the loops read, and the right child's incoming list: boxes first, and then the part that starts at c is added to them. Assumes nothing.
 use mathlib.Core.Path.{_≡_, ap, ap₂, _∙_}
+use mathlib.Core.Logic.{⊎-elim}
 use lib.IntN.{ℤ, pos}
 use mathlib.Core.List.{List}
-use Prim.Native.Nat.{ℕ, _+_, _-_, _≤_, _<_}
+use Prim.Native.Nat.{ℕ, _+_, _-_, _^_, _≤_, _<_}
 use native.Mathlib.Omega.{arith}
 use lib.ListN.{length, getD}
 use borrow.Rule.Slice.PartMut.{midOf, putMid}
-use Rattle.words.specs.Words.{write, addWord, boxAt, plusBox, plusFront}
-use Rattle.words.proofs.Store.{length-write, write-in, write-below, write-ext, write-over, write-mid, getD-mid}
+use lib.Signed.{mag}
+use mir.Val.{toZ, ofZ}
+use mir.Syntax.{w32}
+use Rattle.words.specs.Words.{word, write, addWord}
+use Rattle.halves.specs.Halves.{Apart, boxAt, plusBox, plusFront}
+use Rattle.words.proofs.Signed.{back}
+use Rattle.words.proofs.Loops.{Stored}
+use Rattle.words.proofs.Store.{length-write, write-in, write-below, write-ext, write-over, write-mid, getD-mid, source-above, source-below}
+
+-- word k of a source that shares no word with what a loop stores, in turn k
+pub source : {w₀ w : List ℤ} {d h k : ℕ} {f : ℕ → ℤ} → Stored w₀ d h f k w → k < h → (b : ℕ) → Apart h d b
+    → mag (word w (b + k)) < 2 ^ 31 → toZ w32 (ofZ w32 (word w (b + k))) ≡ word w₀ (b + k)
+source {w₀} {w} {d} {h} {k} {f} s lt b apart given = back given ∙ ⊎-elim
+    (λ (p : d + h ≤ b). source-above (pos 0) w₀ w d k f (b + k) (s .words) (omega arith))
+    (λ (p : b + h ≤ d). source-below (pos 0) w₀ w d k f (b + k) (s .words) (omega arith))
+    apart
 
 -- the words that the part that starts at c has to add
 module _ (w v : List ℤ) (d a b c h : ℕ) (fit : d + h ≤ length w) (le : c + h ≤ d) (ev : v ≡ write w d h (boxAt w a b)) (k : ℕ) (lt : k < h) where

@@ -15,7 +15,8 @@ use Rattle.model.specs.Bounds.{limit, Small, Under, SmallAll, UnderAll, cap}
 use Rattle.model.proofs.Lists.{double, tabulate-ext}
 use Rattle.model.proofs.Algebra.{plus-comm, plus-zero-r}
 use Rattle.model.proofs.Bounds.{small-box, small-plus, under-box, under-plus, under-mono, small-mono}
-use Rattle.words.specs.Words.{Added, word, softOf, soft, write, Holds, boxWord, addWord, boxAt, boxPlus, plusBox, Words, Sums, BoxSums, FiniteBoxSums}
+use Rattle.words.specs.Words.{Added, word, softOf, soft, write, Holds, boxWord, addWord, Words}
+use Rattle.halves.specs.Halves.{boxAt, boxPlus, plusBox, Sums, BoxSums, FiniteBoxSums, lowHalf, highHalf}
 use Rattle.words.proofs.Laws.{word-soft, soft-at, small-under, small-size, under-word, soft-box, soft-add, add-word}
 use Rattle.words.proofs.Store.{source-below}
 use Rattle.scan.specs.Space.{treeAt, begun, part, Kept, Visited}
@@ -216,6 +217,9 @@ module _ (N t b x : ℕ) (w : List ℤ) (fit : Fit N (suc t) b x (length w)) (v 
           ∙ plus-box-is _ _ _ _ _ _ (at-low k lt) (at-left k lt) (at-high k lt) (boxed-list k lt) (right-top l k lt))
 
     module _ (UB : UnderAll t (cap t (2 * bd)) (message B)) where
+      pub words-right : Words v (t * N + b + 2 ^ t) (2 ^ t)
+      words-right k lt = under-word limit (word v (t * N + b + 2 ^ t + k)) (omega arith) (subst (Under limit) (sym (at-right k lt)) (cap-top (message B at k) (UB k lt)))
+
       high-sum : (k : ℕ) → k < 2 ^ t → Under limit (plus (soft w x (2 ^ suc t) at (k + 2 ^ t)) (message B at k))
       high-sum k lt = sum-top (soft w x (2 ^ suc t) at (k + 2 ^ t)) (message B at k) (high-small k lt) (UB k lt)
 
@@ -241,16 +245,16 @@ module _ (N t b x : ℕ) (w : List ℤ) (fit : Fit N (suc t) b x (length w)) (v 
         up-sums k lt = plus-box-word _ _ _ _ _ _ (at-low k lt) (at-left k lt) (at-right k lt) (boxed-small UA k lt) (up-top k lt)
 
         -- the two halves of the message
-        pub low-half : (z : List ℤ) → z ≡ write v (suc t * N + b) (2 ^ t) (boxPlus v (t * N + b) (x + 2 ^ t) (t * N + b + 2 ^ t))
+        pub low-half : (z : List ℤ) → z ≡ write v (suc t * N + b) (2 ^ t) (lowHalf v x (t * N + b) (2 ^ t))
             → (k : ℕ) → k < 2 ^ t → softOf (word z (suc t * N + b + k)) ≡ box (message A at k) (plus (soft w x (2 ^ suc t) at (k + 2 ^ t)) (message B at k))
         low-half z e k lt =
-            ap softOf (stored-at v z (suc t * N + b) (2 ^ t) (boxPlus v (t * N + b) (x + 2 ^ t) (t * N + b + 2 ^ t)) k e lt (omega (arith, fit .fit, fit .rows, fit .within, m .kept .long, two)))
+            ap softOf (stored-at v z (suc t * N + b) (2 ^ t) (lowHalf v x (t * N + b) (2 ^ t)) k e lt (omega (arith, fit .fit, fit .rows, fit .within, m .kept .long, two)))
             ∙ box-plus-is _ _ _ _ _ _ (at-left k lt) (at-high k lt) (at-right k lt) (high-sum k lt)
             (under-box limit (message A at k) (plus (soft w x (2 ^ suc t) at (k + 2 ^ t)) (message B at k)) (cap-top (message A at k) (UA k lt)) (high-sum k lt))
 
-        pub high-half : (base z : List ℤ) → length base ≡ length v → z ≡ write base (suc t * N + b + 2 ^ t) (2 ^ t) (plusBox v x (t * N + b) (t * N + b + 2 ^ t))
+        pub high-half : (base z : List ℤ) → length base ≡ length v → z ≡ write base (suc t * N + b + 2 ^ t) (2 ^ t) (highHalf v x (t * N + b) (2 ^ t))
             → (k : ℕ) → k < 2 ^ t → softOf (word z (suc t * N + b + 2 ^ t + k)) ≡ plus (message B at k) (box (soft w x (2 ^ suc t) at k) (message A at k))
         high-half base z long e k lt =
-            ap softOf (stored-at base z (suc t * N + b + 2 ^ t) (2 ^ t) (plusBox v x (t * N + b) (t * N + b + 2 ^ t)) k e lt (omega (arith, fit .fit, fit .rows, fit .within, m .kept .long, long, two)))
+            ap softOf (stored-at base z (suc t * N + b + 2 ^ t) (2 ^ t) (highHalf v x (t * N + b) (2 ^ t)) k e lt (omega (arith, fit .fit, fit .rows, fit .within, m .kept .long, long, two)))
             ∙ plus-box-is _ _ _ _ _ _ (at-low k lt) (at-left k lt) (at-right k lt) (boxed-list UA k lt) (up-top k lt)
             ∙ plus-comm (box (soft w x (2 ^ suc t) at k) (message A at k)) (message B at k)

@@ -19,13 +19,14 @@ use Rattle.model.proofs.Lists.{T-true, true-T, absurd-bool, double, tabulate-ha
 use Rattle.model.proofs.PlannedWalk.{walk-cut, walk-through, descend}
 use Rattle.model.proofs.Paths.{wellCut-cut, wellCut-through}
 use Rattle.model.proofs.Bounds.{cap-suc, small-toLeft, small-toRight, held-walk, held-message}
-use Rattle.words.specs.Words.{FiniteBoxSums, Holds, word, softOf, soft, write, boxAt, boxPlus, plusBox, Words, Sums, BoxSums}
+use Rattle.words.specs.Words.{Holds, word, softOf, soft, write, Words}
+use Rattle.halves.specs.Halves.{boxAt, boxPlus, plusBox, Sums, FiniteBoxSums, InRange, RightListAt, lowHalf, nodeWords}
 use Rattle.words.proofs.Store.{source-below, length-write}
 use Rattle.kinds.specs.Known.{FixedAs}
 use Rattle.scan.specs.Space.{constant, treeAt, begun, part, Room, Visited}
 use Rattle.scan.proofs.Keep.{Fit, node-path, part-left, part-right}
 use Rattle.scan.proofs.Begun.{begun-left, begun-right, begun-zero, leaf-constant}
-use Rattle.scan.proofs.Mids.{Mid, mid-start, mid-scratch, mid-row, mid-left, mid-right, words-list, words-high, words-left, right-sums, right-stays, right-list, left-sums, left-list, left-list-zero, up-sums, low-half, high-half, left-holds, right-holds}
+use Rattle.scan.proofs.Mids.{Mid, mid-start, mid-scratch, mid-row, mid-left, mid-right, words-list, words-high, words-left, words-right, right-sums, right-stays, right-list, left-sums, left-list, left-list-zero, up-sums, low-half, high-half, left-holds, right-holds}
 use Rattle.scan.proofs.Known.{fixed-constant, walk-certain, walk-zero}
 
 -- ---- the stores of an uncut visit: h is half the size, u the stage below, c the place of the child's incoming list
@@ -37,8 +38,7 @@ abbrev pub RightList : (N b x h u c : ℕ) → Bool → (w v : List ℤ) → Typ
 RightList N b x h u c skip w v = v ≡ cond skip w (write w c h (plusBox w x (u * N + b) (x + h)))
 
 abbrev pub NodeStored : (N t b x h u : ℕ) → (w v : List ℤ) → Type 0
-NodeStored N t b x h u w v =
-    v ≡ write (write w (t * N + b) h (boxPlus w (u * N + b) (x + h) (u * N + b + h))) (t * N + b + h) h (plusBox w x (u * N + b) (u * N + b + h))
+NodeStored N t b x h u w v = v ≡ nodeWords w (t * N + b) x (u * N + b) h
 
 -- whether a child is constant
 abbrev SkipOf : List ℕ → List ℕ → (h p b : ℕ) → Bool → Type 0
@@ -82,9 +82,8 @@ pub record Run (plan mask : List ℕ) (N t p b x : ℕ) (first : Bool) (w : List
       → (a₃ z₃ : Bool) → Known plan mask h (2 * p + 1) (b + h) a₃ z₃ → (w₃ : List ℤ) → RightList N b x h u c (a₃ || z₃) w₂ w₃ → Room plan mask N u h (2 * p + 1) (b + h) c first w₃
   pub five : (a₁ z₁ : Bool) → Known plan mask h (2 * p) b a₁ z₁ → (w₂ : List ℤ) → LeftDone plan mask N p b x h u c first (a₁ || z₁) w w₂
       → (a₃ z₃ : Bool) → Known plan mask h (2 * p + 1) (b + h) a₃ z₃ → (w₄ : List ℤ) → RightDone plan mask N p b x h u c first (a₃ || z₃) w₂ w₄
-      → (Words w₄ x h × Words w₄ (u * N + b) h × Sums w₄ (x + h) (u * N + b + h) h × BoxSums w₄ x (u * N + b) (u * N + b + h) h × FiniteBoxSums w₄ x (u * N + b) (x + h) h)
-      × ((a₁ ≡ true → Holds w₄ (u * N + b) h (λ k. pos mark)) × ((z₃ ≡ true → Holds w₄ (u * N + b + h) h (λ k. pos 0))
-      × ((a₃ || z₃) ≡ false → Holds w₄ c h (plusBox w₄ x (u * N + b) (x + h)))))
+      → InRange w₄ x (u * N + b) h × ((a₁ ≡ true → Holds w₄ (u * N + b) h (λ k. pos mark)) × ((z₃ ≡ true → Holds w₄ (u * N + b + h) h (λ k. pos 0))
+      × ((a₃ || z₃) ≡ false → RightListAt w₄ x (u * N + b) c h)))
   pub done : (a₁ z₁ : Bool) → Known plan mask h (2 * p) b a₁ z₁ → (w₂ : List ℤ) → LeftDone plan mask N p b x h u c first (a₁ || z₁) w w₂
       → (a₃ z₃ : Bool) → Known plan mask h (2 * p + 1) (b + h) a₃ z₃ → (w₄ : List ℤ) → RightDone plan mask N p b x h u c first (a₃ || z₃) w₂ w₄
       → (w₅ : List ℤ) → NodeStored N t b x h u w₄ w₅ → Visited plan mask N t p b x first w w₅
@@ -308,12 +307,12 @@ module _ (plan mask : List ℕ) (N t s p b x : ℕ) (first : Bool) (w : List ℤ
           m₄ : Mid N t b x w w₄ A B
           m₄ = subst (λ (T : Tree). Mid N t b x w w₄ A T) (right-walk s₃ refl) (mid-right N t b x w fits w₃ A TB m₃ plan mask (2 * p + 1) first w₄ v₄)
 
-          listed₄ : s₃ ≡ false → Holds w₄ c h (plusBox w₄ x (t * N + b) (x + h))
-          listed₄ q = right-stays N t b x w fits w₂ A TB m₂ w₃ w₄ (stored₃ q) (v₄ .kept)
+          listed₄ : s₃ ≡ false → RightListAt w₄ x (t * N + b) c h
+          listed₄ q = (right-sums N t b x w fits w₄ A B m₄ bd S lim UA lim₂, right-stays N t b x w fits w₂ A TB m₂ w₃ w₄ (stored₃ q) (v₄ .kept))
 
           -- the first half of the message
           half : List ℤ
-          half = write w₄ (suc t * N + b) h (boxPlus w₄ (t * N + b) (x + h) (t * N + b + h))
+          half = write w₄ (suc t * N + b) h (lowHalf w₄ x (t * N + b) h)
 
           mₕ : Mid N t b x w half A B
           unfolding half
@@ -363,13 +362,13 @@ module _ (plan mask : List ℕ) (N t s p b x : ℕ) (first : Bool) (w : List ℤ
     four = λ a₁ z₁ f₁ w₂ d₂ a₃ z₃ f₃ w₃ e₃. room₃ (a₁ || z₁) (skip-left a₁ z₁ f₁) (d₂ .list) (d₂ .stored) w₂ (d₂ .visited) (a₃ || z₃) (skip-right a₃ z₃ f₃) w₃ e₃;
     five = λ a₁ z₁ f₁ w₂ d₂ a₃ z₃ f₃ w₄ d₄.
         let m = m₄ (a₁ || z₁) (skip-left a₁ z₁ f₁) (d₂ .list) (d₂ .stored) w₂ (d₂ .visited) (a₃ || z₃) (skip-right a₃ z₃ f₃) (d₄ .list) (d₄ .stored) w₄ (d₄ .visited) in (
-          (
-            words-list N t b x w fits w₄ A B m bd S lim,
-            words-left N t b x w fits w₄ A B m bd S lim UA,
-            left-sums N t b x w fits w₄ A B m bd S lim UB,
-            up-sums N t b x w fits w₄ A B m bd S lim UB UA,
-            right-sums N t b x w fits w₄ A B m bd S lim UA lim₂,
-          ),
+          record {
+            first = words-list N t b x w fits w₄ A B m bd S lim;
+            left = words-left N t b x w fits w₄ A B m bd S lim UA;
+            right = words-right N t b x w fits w₄ A B m bd S lim UB;
+            sums = left-sums N t b x w fits w₄ A B m bd S lim UB;
+            box-sums = up-sums N t b x w fits w₄ A B m bd S lim UB UA;
+          },
           (
             λ q. left-holds N t b x w fits w₄ A B m certain (walk-certain plan t (2 * p) (part mask b t) BA (toLeft h L (message BB)) a₁ z₁ f₁ q),
             (

@@ -21,7 +21,8 @@ ghost use lib.IntN.{pos};
 ghost use mathlib.Core.List.{map};
 ghost use Rattle.model.specs.Soft.{finite, mark};
 ghost use Rattle.model.specs.Scan.{scan};
-ghost use Rattle.words.specs.Words.{stored, write, Holds, boxPlus, plusBox, Words, Sums, BoxSums, FiniteBoxSums};
+ghost use Rattle.words.specs.Words.{stored, write, Holds};
+ghost use Rattle.halves.specs.Halves.{Places, InRange, RightListAt, nodeWords};
 ghost use mathlib.Core.Bool.{true, false, cond, _||_};
 ghost use Rattle.scan.specs.Space.{Room, Visited, Ready, Swept, withLlrs, Decodable};
 
@@ -49,12 +50,12 @@ fn own_message(
     c: usize,
     h: usize,
 )
-    requires { ⌜ (l + (h + h) ≤ m) × (m + (h + h) ≤ x) × (x + (h + h) ≤ c) × (c + h ≤ length (now w)) ⌝ }
-    requires { ⌜ Words (now w) x h × Words (now w) l h × Sums (now w) (x + h) (l + h) h × BoxSums (now w) x l (l + h) h × FiniteBoxSums (now w) x l (x + h) h ⌝ }
+    requires { ⌜ Places m x l h c × (c + h ≤ length (now w)) ⌝ }
+    requires { ⌜ InRange (now w) x l h ⌝ }
     requires { ⌜ (left .certain ≡ true → Holds (now w) l h (λ k. pos mark)) ⌝ }
     requires { ⌜ (right .zero ≡ true → Holds (now w) (l + h) h (λ k. pos 0)) ⌝ }
-    requires { ⌜ ((right .certain || right .zero) ≡ false → Holds (now w) c h (plusBox (now w) x l (x + h))) ⌝ }
-    ensures { λ _. ⌜ now (w .exit) ≡ write (write (now (w .entry)) m h (boxPlus (now (w .entry)) l (x + h) (l + h))) (m + h) h (plusBox (now (w .entry)) x l (l + h)) ⌝ }
+    requires { ⌜ ((right .certain || right .zero) ≡ false → RightListAt (now w) x l c h) ⌝ }
+    ensures { λ _. ⌜ now (w .exit) ≡ nodeWords (now (w .entry)) m x l h ⌝ }
 {
     if left.certain {
         message_left_certain(w, m, x, l, h);

@@ -409,7 +409,7 @@ module _ (t : ℕ) where
       let room = start .pre .1 in
       let g = numbers el in
       let kept = right-done both .long ∙ left-done met .long in
-      ((omega arith, omega arith, omega arith, omega arith), running el .five (known .result .certain) (known .result .zero) (known .ensures) (met .if2 .work) (left-done met) (known₂ .result .certain) (known₂ .result .zero) (known₂ .ensures) (both .if3 .work) (right-done both))
+      ((record { children = omega arith; message = omega arith; list = omega arith }, omega arith), running el .five (known .result .certain) (known .result .zero) (known .ensures) (met .if2 .work) (left-done met) (known₂ .result .certain) (known₂ .result .zero) (known₂ .ensures) (both .if3 .work) (right-done both))
 
   visit-same-length-2 : visit-lts.Need-same-length-2 (around t) (visit-at t) visit.Post
   visit-same-length-2 c =

@@ -9,9 +9,6 @@ add-x : tie.Need-add-x
 add-x c =
     let few = stages (c .before .before .pre) in record { fits = omega arith }
 
-mul-x : tie.Need-mul-x
-mul-x c = search needs
-
 visit-requires : tie.Need-visit-requires
 visit-requires c κs =
     root-room (c .before .before .before .pre)
@@ -25,4 +22,4 @@ returns c =
     swept-one (c .before .before .before .before .before .pre) _ (c .before .visit .ensures)
 
 pub sweep-spec : {M : Type 1} → statement M
-sweep-spec = tie.close (tie.spec add-x mul-x visit-requires same-length returns)
+sweep-spec = tie.close (tie.spec add-x (λ c. search needs) visit-requires same-length returns)

@@ -26,12 +26,6 @@ sweep-requires c κs =
     let l = c .before .before .loop in
     so-far-ready (a .plan .now) (a .mask .now) (a .n) (a .t) (a .work .now) (l .k) (l .work) (start .pre .0) (l .inv .1)
 
-add-k : tie.Need-add-k Inv-loop μ-loop
-add-k c = search needs
-
-loop-less : tie.Need-loop-less Inv-loop μ-loop
-loop-less c = search needs
-
 loop-again : tie.Need-loop-again Inv-loop μ-loop
 loop-again c =
     let a = c .before .before .before .before .before .before .before .args in
@@ -61,8 +55,8 @@ sweeps-spec =
     μ-loop
     loop-holds
     sweep-requires
-    add-k
-    loop-less
+    (λ c. search needs)  -- k + 1
+    (λ c. search needs)  -- less is left
     loop-again
     same-length
     returns)
