@@ -1,6 +1,6 @@
 -- What the loop reads while it stores a node's message by the right child's incoming list. Assumes nothing.
 use mathlib.Core.Path.{_≡_, sym, ap₂, _∙_, subst, subst₂}
-use mathlib.Core.Logic.{_⊎_, inl, inr}
+use mathlib.Core.Logic.{inl, inr}
 use lib.IntN.{ℤ, _-ℤ_}
 use lib.ListN.{length}
 use mathlib.Core.List.{List}
