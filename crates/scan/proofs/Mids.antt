@@ -188,6 +188,15 @@ module _ {N t b x : ℕ} {w v : List ℤ} {A B : Tree} (begin : Visiting N t b x
   small-in : (s : Soft) → Small bound s → Small limit s
   small-in s u = small-mono s (omega (arith, begin .limited)) u
 
+  boxed : (s : Soft) (k : ℕ) → k < 2 ^ t → Small bound (box (lower k) s)
+  boxed s k lt = small-box bound (lower k) s (low-small k lt)
+
+  boxed-in : (s : Soft) (k : ℕ) → k < 2 ^ t → Small limit (box (lower k) s)
+  boxed-in s k lt = small-in (box (lower k) s) (boxed s k lt)
+
+  boxed-top : (s : Soft) (k : ℕ) → k < 2 ^ t → Under limit (box (lower k) s)
+  boxed-top s k lt = small-top (box (lower k) s) (boxed s k lt)
+
   cap-top : (s : Soft) → Under (cap t (2 * bound)) s → Under limit s
   cap-top s u = under-mono s (omega (arith, begin .limited)) u
 
@@ -206,8 +215,7 @@ module _ {N t b x : ℕ} {w v : List ℤ} {A B : Tree} (begin : Visiting N t b x
   unfolding soft toLeft
   left-list-zero r none z e = tabulate-ext (2 ^ t) _ _ (λ k lt.
       ap softOf (stored-at v z c (2 ^ t) (boxAt v x (x + 2 ^ t)) k e lt (omega (arith, fit .fit, m .kept .long, twice)))
-      ∙ box-is _ _ (pos 0) _ _ _ (at-low k lt) (at-high k lt) refl
-      (small-top (box (lower k) (upper k)) (small-box bound (lower k) (upper k) (low-small k lt)))
+      ∙ box-is _ _ (pos 0) _ _ _ (at-low k lt) (at-high k lt) refl (boxed-top (upper k) k lt)
       ∙ ap (box (lower k)) (sym (ap (plus (upper k)) (none k lt) ∙ plus-zero-r (upper k))))
 
   module _ (left-under : UnderAll t (cap t (2 * bound)) (message A)) where
@@ -215,21 +223,15 @@ module _ {N t b x : ℕ} {w v : List ℤ} {A B : Tree} (begin : Visiting N t b x
     words-left k lt = within-word (word v (t * N + b + k)) _ (at-left k lt) (cap-top (message A at k) (left-under k lt))
 
     -- what the right child is handed, and the sums on the way
-    pub boxed-list : (k : ℕ) → k < 2 ^ t → Under limit (box (lower k) (message A at k))
-    boxed-list k lt = small-top (box (lower k) (message A at k)) (small-box bound (lower k) (message A at k) (low-small k lt))
-
-    pub boxed-small : (k : ℕ) → k < 2 ^ t → Small limit (box (lower k) (message A at k))
-    boxed-small k lt = small-in (box (lower k) (message A at k)) (small-box bound (lower k) (message A at k) (low-small k lt))
-
     right-top : (k : ℕ) → k < 2 ^ t → Under limit (plus (box (lower k) (message A at k)) (upper k))
     right-top k lt =
         under-mono (plus (box (lower k) (message A at k)) (upper k)) (begin .doubled)
         (small-under (2 * bound) (plus (box (lower k) (message A at k)) (upper k))
-        (small-plus bound (box (lower k) (message A at k)) (upper k) (small-box bound (lower k) (message A at k) (low-small k lt)) (high-small k lt)))
+        (small-plus bound (box (lower k) (message A at k)) (upper k) (boxed (message A at k) k lt) (high-small k lt)))
 
     pub right-sums : FiniteBoxSums v x (t * N + b) (x + 2 ^ t) (2 ^ t)
     right-sums k lt =
-        let s = plus-box-word _ _ _ _ _ _ (at-low k lt) (at-left k lt) (at-high k lt) (boxed-small k lt) (right-top k lt) in
+        let s = plus-box-word _ _ _ _ _ _ (at-low k lt) (at-left k lt) (at-high k lt) (boxed-in (message A at k) k lt) (right-top k lt) in
         (s .0, small-word (word v (x + 2 ^ t + k)) _ (at-high k lt) (small-in (upper k) (high-small k lt)), s .1)
 
     pub right-list : (z : List ℤ) → z ≡ write v c (2 ^ t) (plusBox v x (t * N + b) (x + 2 ^ t))
@@ -237,7 +239,7 @@ module _ {N t b x : ℕ} {w v : List ℤ} {A B : Tree} (begin : Visiting N t b x
     unfolding soft toRight
     right-list z e = tabulate-ext (2 ^ t) _ _ (λ k lt.
         ap softOf (stored-at v z c (2 ^ t) (plusBox v x (t * N + b) (x + 2 ^ t)) k e lt (omega (arith, fit .fit, m .kept .long, twice)))
-        ∙ plus-box-is _ _ _ _ _ _ (at-low k lt) (at-left k lt) (at-high k lt) (boxed-list k lt) (right-top k lt))
+        ∙ plus-box-is _ _ _ _ _ _ (at-low k lt) (at-left k lt) (at-high k lt) (boxed-top (message A at k) k lt) (right-top k lt))
 
   module _ (right-under : UnderAll t (cap t (2 * bound)) (message B)) where
     pub words-right : Words v (t * N + b + 2 ^ t) (2 ^ t)
@@ -254,18 +256,14 @@ module _ {N t b x : ℕ} {w v : List ℤ} {A B : Tree} (begin : Visiting N t b x
     unfolding soft toLeft
     left-list z e = tabulate-ext (2 ^ t) _ _ (λ k lt.
         ap softOf (stored-at v z c (2 ^ t) (boxPlus v x (x + 2 ^ t) (t * N + b + 2 ^ t)) k e lt (omega (arith, fit .fit, m .kept .long, twice)))
-        ∙ box-plus-is _ _ _ _ _ _ (at-low k lt) (at-high k lt) (at-right k lt) (high-sum k lt)
-        (small-top (box (lower k) (plus (upper k) (message B at k)))
-        (small-box bound (lower k) (plus (upper k) (message B at k)) (low-small k lt))))
+        ∙ box-plus-is _ _ _ _ _ _ (at-low k lt) (at-high k lt) (at-right k lt) (high-sum k lt) (boxed-top (plus (upper k) (message B at k)) k lt))
 
     module _ (left-under : UnderAll t (cap t (2 * bound)) (message A)) where
       up-top : (k : ℕ) → k < 2 ^ t → Under limit (plus (box (lower k) (message A at k)) (message B at k))
-      up-top k lt =
-          sum-top (box (lower k) (message A at k)) (message B at k)
-          (small-box bound (lower k) (message A at k) (low-small k lt)) (right-under k lt)
+      up-top k lt = sum-top (box (lower k) (message A at k)) (message B at k) (boxed (message A at k) k lt) (right-under k lt)
 
       pub up-sums : BoxSums v x (t * N + b) (t * N + b + 2 ^ t) (2 ^ t)
-      up-sums k lt = plus-box-word _ _ _ _ _ _ (at-low k lt) (at-left k lt) (at-right k lt) (boxed-small left-under k lt) (up-top k lt)
+      up-sums k lt = plus-box-word _ _ _ _ _ _ (at-low k lt) (at-left k lt) (at-right k lt) (boxed-in (message A at k) k lt) (up-top k lt)
 
       pub in-range : InRange v x (t * N + b) (2 ^ t)
       in-range = record { first = words-list; left = words-left left-under; right = words-right; sums = left-sums; box-sums = up-sums }
@@ -282,5 +280,5 @@ module _ {N t b x : ℕ} {w v : List ℤ} {A B : Tree} (begin : Visiting N t b x
           → (k : ℕ) → k < 2 ^ t → softOf (word z (suc t * N + b + 2 ^ t + k)) ≡ plus (message B at k) (box (lower k) (message A at k))
       high-half base z long e k lt =
           ap softOf (stored-at base z (suc t * N + b + 2 ^ t) (2 ^ t) (highHalf v x (t * N + b) (2 ^ t)) k e lt (omega (arith, fit .fit, fit .rows, fit .within, m .kept .long, long, twice)))
-          ∙ plus-box-is _ _ _ _ _ _ (at-low k lt) (at-left k lt) (at-right k lt) (boxed-list left-under k lt) (up-top k lt)
+          ∙ plus-box-is _ _ _ _ _ _ (at-low k lt) (at-left k lt) (at-right k lt) (boxed-top (message A at k) k lt) (up-top k lt)
           ∙ plus-comm (box (lower k) (message A at k)) (message B at k)

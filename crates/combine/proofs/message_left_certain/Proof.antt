@@ -23,7 +23,7 @@ turn c = let pre = c .before .before .pre in turn-reads (pre .0) (pre .1 .0) (c 
 add-words-requires : tie.Need-add-words-requires Inv-loop μ-loop
 add-words-requires c κs =
     let in-loop = c .before .before .before in
-    rw (turn in-loop .second, turn in-loop .right) (in-loop .before .before .pre .1 .0 .sums _ (in-loop .loop-test .taken))
+    subst₂ Added (sym (turn in-loop .second)) (sym (turn in-loop .right)) (in-loop .before .before .pre .1 .0 .sums _ (in-loop .loop-test .taken))
 
 add-words-requires-2 : tie.Need-add-words-requires-2 Inv-loop μ-loop
 add-words-requires-2 c κs =

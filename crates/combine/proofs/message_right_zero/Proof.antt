@@ -1,9 +1,9 @@
 -- `combine::message_right_zero` meets its contract. The loop's invariant is that of `node_message`; a sum with 0 is the other word. Assumes nothing.
-use mathlib.Core.Path.{sym, _∙_}
+use mathlib.Core.Path.{sym, _∙_, subst}
 use Prim.Native.Nat.{_+_, _-_}
 use native.Mathlib.Omega.{arith}
 use lib.ListN.{length-set}
-use Rattle.words.specs.Words.{boxWord}
+use Rattle.words.specs.Words.{Word, boxWord}
 use Rattle.words.proofs.Signed.{back-of}
 use Rattle.words.proofs.Loops.{none-of-both, one-of-both, all-of-both}
 use Rattle.halves.proofs.Laws.{box-plus-zero, plus-box-zero}
@@ -25,14 +25,14 @@ box-words-requires c κs =
     let in-loop = c .before .before .before in
     let range = in-loop .before .before .pre .1 .0 in
     let lt = in-loop .loop-test .taken in
-    (rw (turn in-loop .left) (range .left _ lt), rw (turn in-loop .second) (omega (arith, range .sums _ lt .0)))
+    (subst Word (sym (turn in-loop .left)) (range .left _ lt), subst Word (sym (turn in-loop .second)) (omega (arith, range .sums _ lt .0)))
 
 box-words-requires-2 : tie.Need-box-words-requires-2 Inv-loop μ-loop
 box-words-requires-2 c κs =
     let in-loop = c .before .before .before .before in
     let range = in-loop .before .before .pre .1 .0 in
     let lt = in-loop .loop-test .taken in
-    (rw (turn in-loop .first) (range .first _ lt), rw (turn in-loop .left) (range .left _ lt))
+    (subst Word (sym (turn in-loop .first)) (range .first _ lt), subst Word (sym (turn in-loop .left)) (range .left _ lt))
 
 slice-set-from-w-2 : tie.Need-slice-set-from-w-2 Inv-loop μ-loop
 slice-set-from-w-2 c =

@@ -1,9 +1,9 @@
 -- `combine::node_message` meets its contract. The loop's invariant: the first k words of both halves are stored, and nothing else is. Assumes nothing.
-use mathlib.Core.Path.{sym, subst}
+use mathlib.Core.Path.{sym, subst, subst₂}
 use Prim.Native.Nat.{_-_}
 use native.Mathlib.Omega.{arith}
 use lib.ListN.{length-set}
-use Rattle.words.specs.Words.{Word, boxWord, addWord}
+use Rattle.words.specs.Words.{Word, Added, boxWord, addWord}
 use Rattle.words.proofs.Signed.{back-of}
 use Rattle.words.proofs.Loops.{none-of-both, one-of-both, all-of-both}
 use Rattle.combine.proofs.Steps.{MessageStored, Turn, turn-reads}
@@ -22,7 +22,7 @@ turn c = let pre = c .before .before .pre in turn-reads (pre .0) (pre .1) (c .be
 add-words-requires : tie.Need-add-words-requires Inv-loop μ-loop
 add-words-requires c κs =
     let in-loop = c .before .before .before .before in
-    rw (turn in-loop .second, turn in-loop .right) (in-loop .before .before .pre .1 .sums _ (in-loop .loop-test .taken))
+    subst₂ Added (sym (turn in-loop .second)) (sym (turn in-loop .right)) (in-loop .before .before .pre .1 .sums _ (in-loop .loop-test .taken))
 
 box-words-requires : tie.Need-box-words-requires Inv-loop μ-loop
 box-words-requires c κs =
@@ -30,20 +30,20 @@ box-words-requires c κs =
     let range = in-loop .before .before .pre .1 in
     let lt = in-loop .loop-test .taken in
     let t = turn in-loop in
-    (rw (t .left) (range .left _ lt), subst Word (sym (back-of addWord (c .add-words .ok) (c .add-words .ensures) (t .second) (t .right))) (range .sums _ lt .1))
+    (subst Word (sym (t .left)) (range .left _ lt), subst Word (sym (back-of addWord (c .add-words .ok) (c .add-words .ensures) (t .second) (t .right))) (range .sums _ lt .1))
 
 box-words-requires-2 : tie.Need-box-words-requires-2 Inv-loop μ-loop
 box-words-requires-2 c κs =
     let in-loop = c .before .before .before .before .before .before in
     let range = in-loop .before .before .pre .1 in
     let lt = in-loop .loop-test .taken in
-    (rw (turn in-loop .first) (range .first _ lt), rw (turn in-loop .left) (range .left _ lt))
+    (subst Word (sym (turn in-loop .first)) (range .first _ lt), subst Word (sym (turn in-loop .left)) (range .left _ lt))
 
 add-words-requires-2 : tie.Need-add-words-requires-2 Inv-loop μ-loop
 add-words-requires-2 c κs =
     let in-loop = c .before .before .before .before .before .before .before in
     let t = turn in-loop in
-    rw (back-of boxWord (c .box-words2 .ok) (c .box-words2 .ensures) (t .first) (t .left), t .right) (in-loop .before .before .pre .1 .box-sums _ (in-loop .loop-test .taken))
+    subst₂ Added (sym (back-of boxWord (c .box-words2 .ok) (c .box-words2 .ensures) (t .first) (t .left))) (sym (t .right)) (in-loop .before .before .pre .1 .box-sums _ (in-loop .loop-test .taken))
 
 slice-set-from-w-2 : tie.Need-slice-set-from-w-2 Inv-loop μ-loop
 slice-set-from-w-2 c =
