@@ -1,13 +1,15 @@
 // The message of an uncut node, from the incoming list that was made for its right child, on words.
+use combine::node_message;
 use words::add_words;
 use words::box_words;
 use words::store_four;
 use words::sub_words;
 ghost use mathlib.Core.Path.{_≡_};
-ghost use Prim.Native.Nat.{_+_, _%_, _<_, _≤_};
-ghost use lib.IntN.{_-ℤ_};
+ghost use Prim.Native.Nat.{_+_, _%_, _≤_};
 ghost use lib.ListN.{length};
-ghost use Rattle.words.specs.Words.{Word, Added, addWord, word, write, Holds, boxPlus, plusBox, Words, Sums, BoxSums, FiniteBoxSums};
+ghost use Rattle.words.specs.Words.{addWord, word};
+ghost use Rattle.halves.specs.Halves.{boxPlus, Places, InRange, RightListAt, nodeWords};
+ghost use Rattle.by_list.specs.Pairs.{PairAt, boxOf};
 
 // The words at k of both halves of a message.
 struct Pair {
@@ -17,10 +19,8 @@ struct Pair {
 
 // The words at k of both halves, from the right child's incoming list at c: less w[y + k], the second half of the node's, its word is the box.
 fn pair_by_list(w: &[i32], l: usize, r: usize, y: usize, c: usize, k: usize) -> Pair
-    requires { ⌜ (l + k < length (now w)) × (r + k < length (now w)) × (y + k < length (now w)) × (c + k < length (now w)) ⌝ }
-    requires { ⌜ Word (word (now w) (l + k)) × Added (word (now w) (y + k)) (word (now w) (r + k)) ⌝ }
-    requires { ⌜ Word (word (now w) (c + k) -ℤ word (now w) (y + k)) × Added (word (now w) (c + k) -ℤ word (now w) (y + k)) (word (now w) (r + k)) ⌝ }
-    ensures { λ p. ⌜ (p .low ≡ boxPlus (now (w .entry)) l y r k) × (p .high ≡ addWord (word (now (w .entry)) (c + k) -ℤ word (now (w .entry)) (y + k)) (word (now (w .entry)) (r + k))) ⌝ }
+    requires { ⌜ PairAt (now w) l r y c k ⌝ }
+    ensures { λ p. ⌜ (p .low ≡ boxPlus (now (w .entry)) l y r k) × (p .high ≡ addWord (boxOf (now (w .entry)) c y k) (word (now (w .entry)) (r + k))) ⌝ }
 {
     let list = w[c + k];
     let high = w[y + k];
@@ -32,34 +32,12 @@ fn pair_by_list(w: &[i32], l: usize, r: usize, y: usize, c: usize, k: usize) -> 
     }
 }
 
-// `message_by_list` place by place.
-fn by_list_ones(w: &mut [i32], m: usize, x: usize, l: usize, c: usize, h: usize)
-    requires { ⌜ (l + (h + h) ≤ m) × (m + (h + h) ≤ x) × (x + (h + h) ≤ c) × (c + h ≤ length (now w)) ⌝ }
-    requires { ⌜ Words (now w) l h × Sums (now w) (x + h) (l + h) h × BoxSums (now w) x l (l + h) h ⌝ }
-    requires { ⌜ FiniteBoxSums (now w) x l (x + h) h × Holds (now w) c h (plusBox (now w) x l (x + h)) ⌝ }
-    ensures { λ _. ⌜ now (w .exit) ≡ write (write (now (w .entry)) m h (boxPlus (now (w .entry)) l (x + h) (l + h))) (m + h) h (plusBox (now (w .entry)) x l (l + h)) ⌝ }
-{
-    let y = x + h;
-    let r = l + h;
-    let g = m + h;
-    let mut k = 0;
-    while k < h {
-        let p = pair_by_list(&w[..], l, r, y, c, k);
-        let low = p.low;
-        let high = p.high;
-        w[m + k] = low;
-        w[g + k] = high;
-        k += 1;
-    }
-}
-
 // `message_by_list` by four places at once.
 fn by_list_fours(w: &mut [i32], m: usize, x: usize, l: usize, c: usize, h: usize)
-    requires { ⌜ (l + (h + h) ≤ m) × (m + (h + h) ≤ x) × (x + (h + h) ≤ c) × (c + h ≤ length (now w)) ⌝ }
-    requires { ⌜ Words (now w) l h × Sums (now w) (x + h) (l + h) h × BoxSums (now w) x l (l + h) h ⌝ }
-    requires { ⌜ FiniteBoxSums (now w) x l (x + h) h × Holds (now w) c h (plusBox (now w) x l (x + h)) ⌝ }
+    requires { ⌜ Places m x l h c × (c + h ≤ length (now w)) ⌝ }
+    requires { ⌜ InRange (now w) x l h × RightListAt (now w) x l c h ⌝ }
     requires { ⌜ h % 4 ≡ 0 ⌝ }
-    ensures { λ _. ⌜ now (w .exit) ≡ write (write (now (w .entry)) m h (boxPlus (now (w .entry)) l (x + h) (l + h))) (m + h) h (plusBox (now (w .entry)) x l (l + h)) ⌝ }
+    ensures { λ _. ⌜ now (w .exit) ≡ nodeWords (now (w .entry)) m x l h ⌝ }
 {
     let y = x + h;
     let r = l + h;
@@ -77,16 +55,15 @@ fn by_list_fours(w: &mut [i32], m: usize, x: usize, l: usize, c: usize, h: usize
 }
 
 // The message of `combine::node_message`, where the right child's incoming list w[c + k] = box(w[x + k], w[l + k]) + w[x + h + k] is still at c: less w[x + h + k], its
-// words are the boxes of the second half.
+// words are the boxes of the second half. Two places are not taken at once.
 pub fn message_by_list(w: &mut [i32], m: usize, x: usize, l: usize, c: usize, h: usize)
-    requires { ⌜ (l + (h + h) ≤ m) × (m + (h + h) ≤ x) × (x + (h + h) ≤ c) × (c + h ≤ length (now w)) ⌝ }
-    requires { ⌜ Words (now w) l h × Sums (now w) (x + h) (l + h) h × BoxSums (now w) x l (l + h) h ⌝ }
-    requires { ⌜ FiniteBoxSums (now w) x l (x + h) h × Holds (now w) c h (plusBox (now w) x l (x + h)) ⌝ }
-    ensures { λ _. ⌜ now (w .exit) ≡ write (write (now (w .entry)) m h (boxPlus (now (w .entry)) l (x + h) (l + h))) (m + h) h (plusBox (now (w .entry)) x l (l + h)) ⌝ }
+    requires { ⌜ Places m x l h c × (c + h ≤ length (now w)) ⌝ }
+    requires { ⌜ InRange (now w) x l h × RightListAt (now w) x l c h ⌝ }
+    ensures { λ _. ⌜ now (w .exit) ≡ nodeWords (now (w .entry)) m x l h ⌝ }
 {
     if h % 4 == 0 {
         by_list_fours(w, m, x, l, c, h);
     } else {
-        by_list_ones(w, m, x, l, c, h);
+        node_message(w, m, x, l, h);
     }
 }

@@ -8,7 +8,8 @@ ghost use Prim.Native.Nat.{ℕ, _+_, _<_, _≤_};
 ghost use lib.IntN.{pos};
 ghost use lib.ListN.{length};
 ghost use Rattle.model.specs.Soft.{mark};
-ghost use Rattle.words.specs.Words.{word, write, Apart, Holds, boxAt, plusAt, boxPlus, plusBox, plusFront, Words, Finite, FiniteSums, Sums, FiniteBoxSums};
+ghost use Rattle.words.specs.Words.{word, write, Holds, Words, Finite};
+ghost use Rattle.halves.specs.Halves.{Apart, boxAt, plusAt, boxPlus, plusBox, plusFront, FiniteSums, Sums, FiniteBoxSums};
 
 // w[d + k] = box(w[a + k], w[b + k] + w[c + k])
 fn box_plus(w: &mut [i32], d: usize, a: usize, b: usize, c: usize, h: usize)

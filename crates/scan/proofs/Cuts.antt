@@ -9,7 +9,6 @@ use native.Mathlib.Nat.{mul-comm, mul-le-mul-right}
 use native.Mathlib.Omega.{arith}
 use lib.Dec.{T}
 use lib.ListN.{length, take, drop}
-use lib.Seq.{length-take-le}
 use Rattle.model.specs.Lists.{tabulate}
 use Rattle.model.specs.Soft.{Soft, certain, softZero, _at_, box, plus, mark, wordOf}
 use Rattle.model.specs.Scan.{leaf}
@@ -55,7 +54,7 @@ put-tree : (N t b x : ℕ) (w v : List ℤ) (M : List Soft) → Fit N t b x (len
 unfolding treeAt
 put-tree N zero b x w v M fit e q = ap leaf q
 put-tree N (suc t) b x w v M fit e q =
-    let two : 2 ^ suc t ≡ 2 ^ t + 2 ^ t = double t in
+    let twice : 2 ^ suc t ≡ 2 ^ t + 2 ^ t = double t in
     node-path q
     (under N t b w v (suc t * N + b) (2 ^ suc t) _ e (omega arith) (omega (arith, fit .within)))
     (under N t (b + 2 ^ t) w v (suc t * N + b) (2 ^ suc t) _ e (omega arith) (omega (arith, fit .within)))

@@ -69,7 +69,7 @@ module _ (N t b x : ℕ) (w v : List ℤ) (f : ℕ → ℤ) (fit : Fit N t b x (
 -- what a visit of a child leaves, its parent's visit leaves
 pub kept-child : (N t b x b′ : ℕ) (w v : List ℤ) → b ≤ b′ → b′ + 2 ^ t ≤ b + (2 ^ t + 2 ^ t) → suc t * N + N ≤ x → Kept N t b′ (x + (2 ^ t + 2 ^ t)) w v → Kept N (suc t) b x w v
 kept-child N t b x b′ w v low high under k =
-    let two : 2 ^ suc t ≡ 2 ^ t + 2 ^ t = double t in
+    let twice : 2 ^ suc t ≡ 2 ^ t + 2 ^ t = double t in
     let row : suc t * N ≡ t * N + N = suc-mul t N in
     record {
       long = k .long;
@@ -99,7 +99,7 @@ tree-cong N zero b w v same = ap leaf (soft-cong w v (0 * N + b) 1 (λ k lt.
     let e : 0 * N + b + k ≡ 0 * N + (b + k) = omega arith in
     ap (word v) e ∙ same 0 (b + k) (omega arith) (omega arith) (omega arith) ∙ ap (word w) (sym e)))
 tree-cong N (suc t) b w v same =
-    let two : 2 ^ suc t ≡ 2 ^ t + 2 ^ t = double t in
+    let twice : 2 ^ suc t ≡ 2 ^ t + 2 ^ t = double t in
     node-path
     (soft-cong w v (suc t * N + b) (2 ^ suc t) (λ k lt.
     let e : suc t * N + b + k ≡ suc t * N + (b + k) = omega arith in

@@ -35,7 +35,7 @@ tree-words : (N t b : ℕ) (w v : List ℤ) → treeAt N v t b ≡ treeAt N w t 
 unfolding treeAt
 tree-words N zero b w v e u i le low high = row-words N zero b w v e u i (omega arith) low high
 tree-words N (suc t) b w v e u i le low high =
-    let two : 2 ^ suc t ≡ 2 ^ t + 2 ^ t = double t in
+    let twice : 2 ^ suc t ≡ 2 ^ t + 2 ^ t = double t in
     ⊎-elim (λ (q : u ≡ suc t). row-words N (suc t) b w v e u i q low high)
     (λ (l : u < suc t).
     ⊎-elim (λ (p : i < b + 2 ^ t). tree-words N t b w v (ap left e) u i (omega arith) low p)

@@ -19,13 +19,14 @@ use Rattle.model.proofs.Lists.{T-true, true-T, absurd-bool, double, tabulate-ha
 use Rattle.model.proofs.PlannedWalk.{walk-cut, walk-through, descend}
 use Rattle.model.proofs.Paths.{wellCut-cut, wellCut-through}
 use Rattle.model.proofs.Bounds.{cap-suc, small-toLeft, small-toRight, held-walk, held-message}
-use Rattle.words.specs.Words.{FiniteBoxSums, Holds, word, softOf, soft, write, boxAt, boxPlus, plusBox, Words, Sums, BoxSums}
+use Rattle.words.specs.Words.{Holds, word, softOf, soft, write, Words}
+use Rattle.halves.specs.Halves.{boxAt, boxPlus, plusBox, Sums, FiniteBoxSums, InRange, RightListAt, lowHalf, nodeWords}
 use Rattle.words.proofs.Store.{source-below, length-write}
 use Rattle.kinds.specs.Known.{FixedAs}
 use Rattle.scan.specs.Space.{constant, treeAt, begun, part, Room, Visited}
 use Rattle.scan.proofs.Keep.{Fit, node-path, part-left, part-right}
 use Rattle.scan.proofs.Begun.{begun-left, begun-right, begun-zero, leaf-constant}
-use Rattle.scan.proofs.Mids.{Mid, mid-start, mid-scratch, mid-row, mid-left, mid-right, words-list, words-high, words-left, right-sums, right-stays, right-list, left-sums, left-list, left-list-zero, up-sums, low-half, high-half, left-holds, right-holds}
+use Rattle.scan.proofs.Mids.{Mid, Visiting, mid-start, mid-scratch, mid-row, mid-left, mid-right, words-list, words-high, words-left, right-sums, right-stays, right-list, left-sums, left-list, left-list-zero, in-range, low-half, high-half, left-holds, right-holds}
 use Rattle.scan.proofs.Known.{fixed-constant, walk-certain, walk-zero}
 
 -- ---- the stores of an uncut visit: h is half the size, u the stage below, c the place of the child's incoming list
@@ -36,15 +37,7 @@ LeftList N b x h u c first skip w v = v ≡ cond skip w (write w c h (cond first
 abbrev pub RightList : (N b x h u c : ℕ) → Bool → (w v : List ℤ) → Type 0
 RightList N b x h u c skip w v = v ≡ cond skip w (write w c h (plusBox w x (u * N + b) (x + h)))
 
-abbrev pub NodeStored : (N t b x h u : ℕ) → (w v : List ℤ) → Type 0
-NodeStored N t b x h u w v =
-    v ≡ write (write w (t * N + b) h (boxPlus w (u * N + b) (x + h) (u * N + b + h))) (t * N + b + h) h (plusBox w x (u * N + b) (u * N + b + h))
-
--- whether a child is constant
-abbrev SkipOf : List ℕ → List ℕ → (h p b : ℕ) → Bool → Type 0
-SkipOf plan mask h p b skip = skip ≡ constant plan h p (take h (drop b mask))
-
--- and what is known of its message then
+-- what is known of a child's message
 abbrev pub Known : List ℕ → List ℕ → (h p b : ℕ) → Bool → Bool → Type 0
 Known plan mask h p b a z = FixedAs plan h p (take h (drop b mask)) a z
 
@@ -70,24 +63,28 @@ LeftDone plan mask N p b x h u c first skip w v = Done plan mask N u (2 * p) b c
 abbrev pub RightDone : List ℕ → List ℕ → (N p b x h u c : ℕ) → Bool → Bool → (w v : List ℤ) → Type 0
 RightDone plan mask N p b x h u c first skip w v = Done plan mask N u (2 * p + 1) (b + h) c first (RightList N b x h u c skip w) w v
 
--- what each step asks, and what the last one ends
+-- ---- what each step asks. The words are w₁ after the left child's incoming list is stored and w₂ after its visit, w₃ and w₄ likewise after the right
+-- child's, and w₅ after the node's message is stored; a child's message is known to be certain, or 0, as a and z say
+-- after both children: what the node's message asks, and what the visit ends with
+pub record AfterRight (plan mask : List ℕ) (N t p b x : ℕ) (first : Bool) (w : List ℤ) (h u c : ℕ) (a₁ a₃ z₃ : Bool) (w₄ : List ℤ) : Type 0 where
+  pub message-asked : InRange w₄ x (u * N + b) h × ((a₁ ≡ true → Holds w₄ (u * N + b) h (λ k. pos mark)) × ((z₃ ≡ true → Holds w₄ (u * N + b + h) h (λ k. pos 0))
+      × ((a₃ || z₃) ≡ false → RightListAt w₄ x (u * N + b) c h)))
+  pub visited : {w₅ : List ℤ} → w₅ ≡ nodeWords w₄ (t * N + b) x (u * N + b) h → Visited plan mask N t p b x first w w₅
+
+-- after the left child
+pub record AfterLeft (plan mask : List ℕ) (N t p b x : ℕ) (first : Bool) (w : List ℤ) (h u c : ℕ) (a₁ : Bool) (w₂ : List ℤ) : Type 0 where
+  pub list-asked : (Words w₂ x h × Words w₂ (u * N + b) h × FiniteBoxSums w₂ x (u * N + b) (x + h) h) × (a₁ ≡ true → Holds w₂ (u * N + b) h (λ k. pos mark))
+  pub right-room : {a₃ z₃ : Bool} → Known plan mask h (2 * p + 1) (b + h) a₃ z₃ → {w₃ : List ℤ} → RightList N b x h u c (a₃ || z₃) w₂ w₃ → Room plan mask N u h (2 * p + 1) (b + h) c first w₃
+  pub after-right : {a₃ z₃ : Bool} → Known plan mask h (2 * p + 1) (b + h) a₃ z₃ → {w₄ : List ℤ} → RightDone plan mask N p b x h u c first (a₃ || z₃) w₂ w₄
+      → AfterRight plan mask N t p b x first w h u c a₁ a₃ z₃ w₄
+
 pub record Run (plan mask : List ℕ) (N t p b x : ℕ) (first : Bool) (w : List ℤ) (h u c : ℕ) : Type 0 where
   pub kind-left : isCut plan (2 * p) ≡ true → T (isSome (kindOf h (take h (drop b mask))))
   pub kind-right : isCut plan (2 * p + 1) ≡ true → T (isSome (kindOf h (take h (drop (b + h) mask))))
-  pub one : Words w x h × Words w (x + h) h × (first ≡ false → Sums w (x + h) (u * N + b + h) h)
-  pub two : (a₁ z₁ : Bool) → Known plan mask h (2 * p) b a₁ z₁ → (w₁ : List ℤ) → LeftList N b x h u c first (a₁ || z₁) w w₁ → Room plan mask N u h (2 * p) b c first w₁
-  pub three : (a₁ z₁ : Bool) → Known plan mask h (2 * p) b a₁ z₁ → (w₂ : List ℤ) → LeftDone plan mask N p b x h u c first (a₁ || z₁) w w₂
-      → (Words w₂ x h × Words w₂ (u * N + b) h × FiniteBoxSums w₂ x (u * N + b) (x + h) h) × (a₁ ≡ true → Holds w₂ (u * N + b) h (λ k. pos mark))
-  pub four : (a₁ z₁ : Bool) → Known plan mask h (2 * p) b a₁ z₁ → (w₂ : List ℤ) → LeftDone plan mask N p b x h u c first (a₁ || z₁) w w₂
-      → (a₃ z₃ : Bool) → Known plan mask h (2 * p + 1) (b + h) a₃ z₃ → (w₃ : List ℤ) → RightList N b x h u c (a₃ || z₃) w₂ w₃ → Room plan mask N u h (2 * p + 1) (b + h) c first w₃
-  pub five : (a₁ z₁ : Bool) → Known plan mask h (2 * p) b a₁ z₁ → (w₂ : List ℤ) → LeftDone plan mask N p b x h u c first (a₁ || z₁) w w₂
-      → (a₃ z₃ : Bool) → Known plan mask h (2 * p + 1) (b + h) a₃ z₃ → (w₄ : List ℤ) → RightDone plan mask N p b x h u c first (a₃ || z₃) w₂ w₄
-      → (Words w₄ x h × Words w₄ (u * N + b) h × Sums w₄ (x + h) (u * N + b + h) h × BoxSums w₄ x (u * N + b) (u * N + b + h) h × FiniteBoxSums w₄ x (u * N + b) (x + h) h)
-      × ((a₁ ≡ true → Holds w₄ (u * N + b) h (λ k. pos mark)) × ((z₃ ≡ true → Holds w₄ (u * N + b + h) h (λ k. pos 0))
-      × ((a₃ || z₃) ≡ false → Holds w₄ c h (plusBox w₄ x (u * N + b) (x + h)))))
-  pub done : (a₁ z₁ : Bool) → Known plan mask h (2 * p) b a₁ z₁ → (w₂ : List ℤ) → LeftDone plan mask N p b x h u c first (a₁ || z₁) w w₂
-      → (a₃ z₃ : Bool) → Known plan mask h (2 * p + 1) (b + h) a₃ z₃ → (w₄ : List ℤ) → RightDone plan mask N p b x h u c first (a₃ || z₃) w₂ w₄
-      → (w₅ : List ℤ) → NodeStored N t b x h u w₄ w₅ → Visited plan mask N t p b x first w w₅
+  pub list-asked : Words w x h × Words w (x + h) h × (first ≡ false → Sums w (x + h) (u * N + b + h) h)
+  pub left-room : {a₁ z₁ : Bool} → Known plan mask h (2 * p) b a₁ z₁ → {w₁ : List ℤ} → LeftList N b x h u c first (a₁ || z₁) w w₁ → Room plan mask N u h (2 * p) b c first w₁
+  pub after-left : {a₁ z₁ : Bool} → Known plan mask h (2 * p) b a₁ z₁ → {w₂ : List ℤ} → LeftDone plan mask N p b x h u c first (a₁ || z₁) w w₂
+      → AfterLeft plan mask N t p b x first w h u c a₁ w₂
 
 -- ---- a constant node's walk does not depend on what it is handed
 rate01-same : (o : Option Kind) (m : ℕ) (L L′ : List Soft) (P : Tree) → isRate01 o ≡ true → putKind o m L P ≡ putKind o m L′ P
@@ -117,276 +114,290 @@ module _ (plan mask : List ℕ) (N t s p b x : ℕ) (first : Bool) (w : List ℤ
   abbrev c : ℕ
   c = x + (2 ^ t + 2 ^ t)
 
-  abbrev bd : ℕ
-  bd = room .bound
+  abbrev bound : ℕ
+  bound = room .bound
 
-  abbrev L : List Soft
-  L = soft w x (2 ^ suc t)
+  abbrev incoming : List Soft
+  incoming = soft w x (2 ^ suc t)
 
-  abbrev TA : Tree
-  TA = treeAt N w t b
+  -- the children's parts of the mask, and what is stored of their states
+  abbrev left-mask : List ℕ
+  left-mask = part mask b t
 
-  abbrev TB : Tree
-  TB = treeAt N w t (b + 2 ^ t)
+  abbrev right-mask : List ℕ
+  right-mask = part mask (b + 2 ^ t) t
+
+  abbrev stored-left : Tree
+  stored-left = treeAt N w t b
+
+  abbrev stored-right : Tree
+  stored-right = treeAt N w t (b + 2 ^ t)
 
   -- what the sweep takes for the children's states
-  abbrev BA : Tree
-  BA = begun first plan t (2 * p) (part mask b t) TA
+  abbrev left-before : Tree
+  left-before = begun first plan t (2 * p) left-mask stored-left
 
-  abbrev BB : Tree
-  BB = begun first plan t (2 * p + 1) (part mask (b + 2 ^ t) t) TB
+  abbrev right-before : Tree
+  right-before = begun first plan t (2 * p + 1) right-mask stored-right
 
-  abbrev A : Tree
-  A = walk plan t (2 * p) (part mask b t) BA (toLeft h L (message BB))
+  abbrev left-after : Tree
+  left-after = walk plan t (2 * p) left-mask left-before (toLeft h incoming (message right-before))
 
-  abbrev B : Tree
-  B = walk plan t (2 * p + 1) (part mask (b + 2 ^ t) t) BB (toRight h L (message A))
+  abbrev right-after : Tree
+  right-after = walk plan t (2 * p + 1) right-mask right-before (toRight h incoming (message left-after))
 
-  abbrev whole : Tree
-  whole = begun first plan (suc t) p (part mask b (suc t)) (treeAt N w (suc t) b)
+  abbrev node-before : Tree
+  node-before = begun first plan (suc t) p (part mask b (suc t)) (treeAt N w (suc t) b)
 
-  whole-left : left whole ≡ BA
+  before-left : left node-before ≡ left-before
   unfolding treeAt
-  whole-left = begun-left first plan t p (part mask b (suc t)) (treeAt N w (suc t) b) uncut ∙ ap (λ (q : List ℕ). begun first plan t (2 * p) q TA) (part-left mask b t)
+  before-left = begun-left first plan t p (part mask b (suc t)) (treeAt N w (suc t) b) uncut ∙ ap (λ (q : List ℕ). begun first plan t (2 * p) q stored-left) (part-left mask b t)
 
-  whole-right : right whole ≡ BB
+  before-right : right node-before ≡ right-before
   unfolding treeAt
-  whole-right = begun-right first plan t p (part mask b (suc t)) (treeAt N w (suc t) b) uncut ∙ ap (λ (q : List ℕ). begun first plan t (2 * p + 1) q TB) (part-right mask b t)
+  before-right = begun-right first plan t p (part mask b (suc t)) (treeAt N w (suc t) b) uncut ∙ ap (λ (q : List ℕ). begun first plan t (2 * p + 1) q stored-right) (part-right mask b t)
 
   fits : Fit N (suc t) b x (length w)
   fits = fit-room room
 
-  is-two : 2 ^ suc t ≡ h + h
-  is-two = double t
+  twice : 2 ^ suc t ≡ h + h
+  twice = double t
 
-  S : SmallAll (suc t) bd L
-  S = room .small (ap (λ (b : Bool). b && isRate01 (kindOf (2 ^ suc t) (part mask b₀ (suc t)))) uncut)
+  incoming-small : SmallAll (suc t) bound incoming
+  incoming-small = room .small (ap (λ (b : Bool). b && isRate01 (kindOf (2 ^ suc t) (part mask b₀ (suc t)))) uncut)
     where
       b₀ : ℕ
       b₀ = b
 
   -- bounds
-  lim : bd + cap t (2 * bd) ≤ limit
-  lim =
-      let e : cap (suc t) bd ≡ bd + cap t (2 * bd) = cap-suc t bd in
-      let m : (2 ^ suc t - 1) * bd ≤ 2 ^ suc t * bd = mul-le-mul-right bd (omega arith) in
-      omega (arith, room .limited, mul-comm (2 ^ suc t) bd)
+  sum-limit : bound + cap t (2 * bound) ≤ limit
+  sum-limit =
+      let e : cap (suc t) bound ≡ bound + cap t (2 * bound) = cap-suc t bound in
+      let m : (2 ^ suc t - 1) * bound ≤ 2 ^ suc t * bound = mul-le-mul-right bound (omega arith) in
+      omega (arith, room .limited, mul-comm (2 ^ suc t) bound)
 
-  lim₂ : 2 * bd ≤ limit
-  lim₂ =
-      let q : 2 ≤ 2 ^ suc t = omega (arith, is-two, pow-pos t) in
-      omega (arith, room .limited, mul-le-mul-left bd q)
+  double-limit : 2 * bound ≤ limit
+  double-limit =
+      let q : 2 ≤ 2 ^ suc t = omega (arith, twice, pow-pos t) in
+      omega (arith, room .limited, mul-le-mul-left bound q)
 
-  limit′ : 2 * bd * 2 ^ t ≤ limit
-  limit′ = omega (arith, room .limited, ap (λ (z : ℕ). bd * z) is-two, mul-add bd (2 ^ t) (2 ^ t), mul-assoc 2 bd (2 ^ t))
+  child-limit : 2 * bound * 2 ^ t ≤ limit
+  child-limit = omega (arith, room .limited, ap (λ (z : ℕ). bound * z) twice, mul-add bound (2 ^ t) (2 ^ t), mul-assoc 2 bound (2 ^ t))
+
+  abbrev begin : Visiting N t b x w
+  begin = record { fit = fits; bound = bound; small = incoming-small; limited = sum-limit; doubled = double-limit }
 
   -- cuts below
-  ww : T (wellCut plan t (2 * p) (take (2 ^ t) (part mask b (suc t))) && wellCut plan t (2 * p + 1) (drop (2 ^ t) (part mask b (suc t))))
-  ww = wellCut-through plan t p (part mask b (suc t)) uncut (room .cuts)
+  children-cuts : T (wellCut plan t (2 * p) (take (2 ^ t) (part mask b (suc t))) && wellCut plan t (2 * p + 1) (drop (2 ^ t) (part mask b (suc t))))
+  children-cuts = wellCut-through plan t p (part mask b (suc t)) uncut (room .cuts)
 
-  wl : T (wellCut plan t (2 * p) (part mask b t))
-  wl = subst (λ (q : List ℕ). T (wellCut plan t (2 * p) q)) (part-left mask b t) (and-l (wellCut plan t (2 * p) (take (2 ^ t) (part mask b (suc t)))) (wellCut plan t (2 * p + 1) (drop (2 ^ t) (part mask b (suc t)))) ww)
+  left-cuts : T (wellCut plan t (2 * p) left-mask)
+  left-cuts = subst (λ (q : List ℕ). T (wellCut plan t (2 * p) q)) (part-left mask b t) (and-l (wellCut plan t (2 * p) (take (2 ^ t) (part mask b (suc t)))) (wellCut plan t (2 * p + 1) (drop (2 ^ t) (part mask b (suc t)))) children-cuts)
 
-  wr : T (wellCut plan t (2 * p + 1) (part mask (b + 2 ^ t) t))
-  wr = subst (λ (q : List ℕ). T (wellCut plan t (2 * p + 1) q)) (part-right mask b t) (and-r (wellCut plan t (2 * p) (take (2 ^ t) (part mask b (suc t)))) (wellCut plan t (2 * p + 1) (drop (2 ^ t) (part mask b (suc t)))) ww)
+  right-cuts : T (wellCut plan t (2 * p + 1) right-mask)
+  right-cuts = subst (λ (q : List ℕ). T (wellCut plan t (2 * p + 1) q)) (part-right mask b t) (and-r (wellCut plan t (2 * p) (take (2 ^ t) (part mask b (suc t)))) (wellCut plan t (2 * p + 1) (drop (2 ^ t) (part mask b (suc t)))) children-cuts)
 
   -- the bounds of the children's messages, before and after
-  HBA : Held plan t (2 * p) (2 * bd) BA
-  HBA = subst (Held plan t (2 * p) (2 * bd)) whole-left (room .held .1 uncut .0)
+  left-held-before : Held plan t (2 * p) (2 * bound) left-before
+  left-held-before = subst (Held plan t (2 * p) (2 * bound)) before-left (room .held .1 uncut .0)
 
-  HBB : Held plan t (2 * p + 1) (2 * bd) BB
-  HBB = subst (Held plan t (2 * p + 1) (2 * bd)) whole-right (room .held .1 uncut .1)
+  right-held-before : Held plan t (2 * p + 1) (2 * bound) right-before
+  right-held-before = subst (Held plan t (2 * p + 1) (2 * bound)) before-right (room .held .1 uncut .1)
 
-  HA : Held plan t (2 * p) (2 * bd) A
-  HA = held-walk plan t (2 * p) (part mask b t) (2 * bd) BA (toLeft h L (message BB)) wl (small-toLeft t bd L S (message BB)) HBA
+  left-held : Held plan t (2 * p) (2 * bound) left-after
+  left-held = held-walk plan t (2 * p) left-mask (2 * bound) left-before (toLeft h incoming (message right-before)) left-cuts (small-toLeft t bound incoming incoming-small (message right-before)) left-held-before
 
-  HB : Held plan t (2 * p + 1) (2 * bd) B
-  HB = held-walk plan t (2 * p + 1) (part mask (b + 2 ^ t) t) (2 * bd) BB (toRight h L (message A)) wr (small-toRight t bd L S (message A)) HBB
+  right-held : Held plan t (2 * p + 1) (2 * bound) right-after
+  right-held = held-walk plan t (2 * p + 1) right-mask (2 * bound) right-before (toRight h incoming (message left-after)) right-cuts (small-toRight t bound incoming incoming-small (message left-after)) right-held-before
 
   -- what is stored of the right child matters in a later sweep
-  UTB : first ≡ false → UnderAll t (cap t (2 * bd)) (message TB)
-  UTB q = held-message plan t (2 * p + 1) (2 * bd) TB (subst (λ (f : Bool). Held plan t (2 * p + 1) (2 * bd) (begun f plan t (2 * p + 1) (part mask (b + 2 ^ t) t) TB)) q HBB)
+  stored-right-under : first ≡ false → UnderAll t (cap t (2 * bound)) (message stored-right)
+  stored-right-under q = held-message plan t (2 * p + 1) (2 * bound) stored-right (subst (λ (f : Bool). Held plan t (2 * p + 1) (2 * bound) (begun f plan t (2 * p + 1) right-mask stored-right)) q right-held-before)
 
-  UA : UnderAll t (cap t (2 * bd)) (message A)
-  UA = held-message plan t (2 * p) (2 * bd) A HA
+  left-under : UnderAll t (cap t (2 * bound)) (message left-after)
+  left-under = held-message plan t (2 * p) (2 * bound) left-after left-held
 
-  UB : UnderAll t (cap t (2 * bd)) (message B)
-  UB = held-message plan t (2 * p + 1) (2 * bd) B HB
+  right-under : UnderAll t (cap t (2 * bound)) (message right-after)
+  right-under = held-message plan t (2 * p + 1) (2 * bound) right-after right-held
 
-  m₀ : Mid N t b x w w TA TB
-  m₀ = mid-start N t b x w
+  -- ---- the words after each step
+  mid₀ : Mid N t b x w w stored-left stored-right
+  mid₀ = mid-start N t b x w
 
-  module _ (s₁ : Bool) (k₁ : SkipOf plan mask h (2 * p) b s₁) (w₁ : List ℤ) (e₁ : LeftList N b x h t c first s₁ w w₁) where
-    m₁ : Mid N t b x w w₁ TA TB
-    m₁ = go s₁ e₁
-      where
-        go : (s : Bool) → LeftList N b x h t c first s w w₁ → Mid N t b x w w₁ TA TB
-        go true e = subst (λ (z : List ℤ). Mid N t b x w z TA TB) (sym e) m₀
-        go false e = mid-scratch N t b x w fits w TA TB m₀ w₁ _ e
+  -- what the visit of a child q with the positions from b′ on requires
+  child-room : {q b′ : ℕ} {v : List ℤ} → length v ≡ length w → b ≤ b′ → b′ + h ≤ b + (h + h) → (q + 1) * h ≤ length plan → T (wellCut plan t q (part mask b′ t))
+      → (constant plan h q (part mask b′ t) ≡ false → SmallAll t (2 * bound) (soft v c h))
+      → Held plan t q (2 * bound) (begun first plan t q (part mask b′ t) (treeAt N v t b′)) → Room plan mask N t h q b′ c first v
+  child-room long low high planned cuts small held = record {
+    size = refl;
+    fit = omega (arith, fits .fit, twice);
+    rows = omega (arith, fits .rows, suc-mul t N);
+    within = omega (arith, fits .within, twice);
+    planned = planned;
+    masked = omega (arith, room .masked, room .size, twice);
+    cuts = cuts;
+    bound = 2 * bound;
+    limited = child-limit;
+    small = small;
+    held = held;
+  }
+
+  planned-both : ((2 * p + 1) * h ≤ length plan) × ((2 * p + 1 + 1) * h ≤ length plan)
+  planned-both =
+      let whole : (p + 1) * (h + h) ≤ length plan = omega (arith, room .planned, ap (λ (z : ℕ). (p + 1) * z) (room .size ∙ twice)) in
+      let parts : (p + 1) * (h + h) ≡ (2 * p + 1) * h + h = omega (arith, mul-add (p + 1) h h, add-mul p 1 h, add-mul (2 * p) 1 h, mul-assoc 2 p h) in
+      (omega arith, omega (arith, add-mul (2 * p + 1) 1 h))
+
+  module _ {a₁ z₁ : Bool} (known₁ : Known plan mask h (2 * p) b a₁ z₁) where
+    skip₁ : (a₁ || z₁) ≡ constant plan h (2 * p) left-mask
+    skip₁ = fixed-constant plan h (2 * p) left-mask a₁ z₁ known₁
 
     -- a leaf's list is not looked at
-    no-leaf : s₁ ≡ false → t ≡ 0 → ⊥
-    no-leaf q z = absurd-bool (constant plan h (2 * p) (part mask b t)) (subst (λ (u : ℕ). T (wellCut plan u (2 * p) (part mask b u)) → constant plan (2 ^ u) (2 * p) (part mask b u) ≡ true) (sym z) (leaf-constant plan (2 * p) (part mask b 0)) wl) (sym k₁ ∙ q)
+    no-leaf : (a₁ || z₁) ≡ false → t ≡ 0 → ⊥
+    no-leaf q z = absurd-bool (constant plan h (2 * p) left-mask) (subst (λ (u : ℕ). T (wellCut plan u (2 * p) (part mask b u)) → constant plan (2 ^ u) (2 * p) (part mask b u) ≡ true) (sym z) (leaf-constant plan (2 * p) (part mask b 0)) left-cuts) (sym skip₁ ∙ q)
 
-    in₁ : s₁ ≡ false → soft w₁ c h ≡ toLeft h L (message BB)
-    in₁ q = go first refl
-      where
-        stored₁ : (f : Bool) → first ≡ f → w₁ ≡ write w c h (cond f (boxAt w x (x + h)) (boxPlus w x (x + h) (t * N + b + h)))
-        stored₁ f e = e₁ ∙ ap₂ (λ (s g : Bool). cond s w (write w c h (cond g (boxAt w x (x + h)) (boxPlus w x (x + h) (t * N + b + h))))) q e
+    module _ {w₁ : List ℤ} (e₁ : LeftList N b x h t c first (a₁ || z₁) w w₁) where
+      mid₁ : Mid N t b x w w₁ stored-left stored-right
+      mid₁ = go (a₁ || z₁) e₁
+        where
+          go : (s : Bool) → LeftList N b x h t c first s w w₁ → Mid N t b x w w₁ stored-left stored-right
+          go true e = subst (λ (z : List ℤ). Mid N t b x w z stored-left stored-right) (sym e) mid₀
+          go false e = mid-scratch begin mid₀ w₁ _ e
 
-        go : (f : Bool) → first ≡ f → soft w₁ c h ≡ toLeft h L (message BB)
-        go true e = left-list-zero N t b x w fits w TA TB m₀ bd S lim (message BB)
-            (λ k lt. ap (λ (f : Bool). message (begun f plan t (2 * p + 1) (part mask (b + 2 ^ t) t) TB) at k) e ∙ begun-zero plan t (2 * p + 1) (part mask (b + 2 ^ t) t) TB (no-leaf q) k lt) w₁ (stored₁ true e)
-        go false e = left-list N t b x w fits w TA TB m₀ bd S lim (UTB e) w₁ (stored₁ false e)
-            ∙ ap (λ (f : Bool). toLeft h L (message (begun f plan t (2 * p + 1) (part mask (b + 2 ^ t) t) TB))) (sym e)
+      left-list-is : (a₁ || z₁) ≡ false → soft w₁ c h ≡ toLeft h incoming (message right-before)
+      left-list-is q = go first refl
+        where
+          stored₁ : (f : Bool) → first ≡ f → w₁ ≡ write w c h (cond f (boxAt w x (x + h)) (boxPlus w x (x + h) (t * N + b + h)))
+          stored₁ f e = e₁ ∙ ap₂ (λ (s g : Bool). cond s w (write w c h (cond g (boxAt w x (x + h)) (boxPlus w x (x + h) (t * N + b + h))))) q e
 
-    room₁ : Room plan mask N t h (2 * p) b c first w₁
-    room₁ = record {
-      size = refl;
-      fit = omega (arith, fits .fit, is-two, m₁ .kept .long);
-      rows = omega (arith, fits .rows, suc-mul t N);
-      within = omega (arith, fits .within, is-two);
-      planned = omega (arith, planned-low);
-      masked = omega (arith, room .masked, room .size, is-two);
-      cuts = wl;
-      bound = 2 * bd;
-      limited = limit′;
-      small = λ q. subst (SmallAll t (2 * bd)) (sym (in₁ (k₁ ∙ q))) (small-toLeft t bd L S (message BB));
-      held = subst (λ (X : Tree). Held plan t (2 * p) (2 * bd) (begun first plan t (2 * p) (part mask b t) X)) (sym (m₁ .lefts)) HBA;
-    }
-      where
-        planned-low : (2 * p + 1) * h ≤ length plan
-        planned-low = omega (arith, room .planned, ap (λ (z : ℕ). (p + 1) * z) (room .size ∙ is-two), mul-add (p + 1) h h, add-mul p 1 h, add-mul (2 * p) 1 h, mul-assoc 2 p h)
+          go : (f : Bool) → first ≡ f → soft w₁ c h ≡ toLeft h incoming (message right-before)
+          go true e = left-list-zero begin mid₀ (message right-before)
+              (λ k lt. ap (λ (f : Bool). message (begun f plan t (2 * p + 1) right-mask stored-right) at k) e ∙ begun-zero plan t (2 * p + 1) right-mask stored-right (no-leaf q) k lt) w₁ (stored₁ true e)
+          go false e = left-list begin mid₀ (stored-right-under e) w₁ (stored₁ false e)
+              ∙ ap (λ (f : Bool). toLeft h incoming (message (begun f plan t (2 * p + 1) right-mask stored-right))) (sym e)
 
-    -- the left child's walk
-    left-walk : (s : Bool) → s₁ ≡ s → walk plan t (2 * p) (part mask b t) BA (soft w₁ c h) ≡ A
-    left-walk true q = walk-constant plan t (2 * p) (part mask b t) BA (soft w₁ c h) (toLeft h L (message BB)) (sym k₁ ∙ q)
-    left-walk false q = ap (walk plan t (2 * p) (part mask b t) BA) (in₁ q)
+      room-left : Room plan mask N t h (2 * p) b c first w₁
+      room-left = child-room (mid₁ .kept .long) (omega arith) (omega arith) (planned-both .0) left-cuts
+          (λ q. subst (SmallAll t (2 * bound)) (sym (left-list-is (skip₁ ∙ q))) (small-toLeft t bound incoming incoming-small (message right-before)))
+          (subst (λ (X : Tree). Held plan t (2 * p) (2 * bound) (begun first plan t (2 * p) left-mask X)) (sym (mid₁ .lefts)) left-held-before)
 
-    module _ (w₂ : List ℤ) (v₂ : Visited plan mask N t (2 * p) b c first w₁ w₂) where
-      m₂ : Mid N t b x w w₂ A TB
-      m₂ = subst (λ (T : Tree). Mid N t b x w w₂ T TB) (left-walk s₁ refl) (mid-left N t b x w fits w₁ TA TB m₁ plan mask (2 * p) first w₂ v₂)
+      -- the left child's walk
+      left-walk : (s : Bool) → (a₁ || z₁) ≡ s → walk plan t (2 * p) left-mask left-before (soft w₁ c h) ≡ left-after
+      left-walk true q = walk-constant plan t (2 * p) left-mask left-before (soft w₁ c h) (toLeft h incoming (message right-before)) (sym skip₁ ∙ q)
+      left-walk false q = ap (walk plan t (2 * p) left-mask left-before) (left-list-is q)
 
-      module _ (s₃ : Bool) (k₃ : SkipOf plan mask h (2 * p + 1) (b + h) s₃) (w₃ : List ℤ) (e₃ : RightList N b x h t c s₃ w₂ w₃) where
-        m₃ : Mid N t b x w w₃ A TB
-        m₃ = go s₃ e₃
+      mid₂ : {w₂ : List ℤ} → Visited plan mask N t (2 * p) b c first w₁ w₂ → Mid N t b x w w₂ left-after stored-right
+      mid₂ {w₂} done = subst (λ (T : Tree). Mid N t b x w w₂ T stored-right) (left-walk (a₁ || z₁) refl) (mid-left begin mid₁ plan mask (2 * p) first w₂ done)
+
+    module _ {w₂ : List ℤ} (mid : Mid N t b x w w₂ left-after stored-right) {a₃ z₃ : Bool} (known₃ : Known plan mask h (2 * p + 1) (b + h) a₃ z₃) where
+      skip₃ : (a₃ || z₃) ≡ constant plan h (2 * p + 1) right-mask
+      skip₃ = fixed-constant plan h (2 * p + 1) right-mask a₃ z₃ known₃
+
+      module _ {w₃ : List ℤ} (e₃ : RightList N b x h t c (a₃ || z₃) w₂ w₃) where
+        mid₃ : Mid N t b x w w₃ left-after stored-right
+        mid₃ = go (a₃ || z₃) e₃
           where
-            go : (s : Bool) → RightList N b x h t c s w₂ w₃ → Mid N t b x w w₃ A TB
-            go true e = subst (λ (z : List ℤ). Mid N t b x w z A TB) (sym e) m₂
-            go false e = mid-scratch N t b x w fits w₂ A TB m₂ w₃ _ e
+            go : (s : Bool) → RightList N b x h t c s w₂ w₃ → Mid N t b x w w₃ left-after stored-right
+            go true e = subst (λ (z : List ℤ). Mid N t b x w z left-after stored-right) (sym e) mid
+            go false e = mid-scratch begin mid w₃ _ e
 
-        stored₃ : s₃ ≡ false → w₃ ≡ write w₂ c h (plusBox w₂ x (t * N + b) (x + h))
+        stored₃ : (a₃ || z₃) ≡ false → w₃ ≡ write w₂ c h (plusBox w₂ x (t * N + b) (x + h))
         stored₃ q = e₃ ∙ ap (λ (s : Bool). cond s w₂ (write w₂ c h (plusBox w₂ x (t * N + b) (x + h)))) q
 
-        in₃ : s₃ ≡ false → soft w₃ c h ≡ toRight h L (message A)
-        in₃ q = right-list N t b x w fits w₂ A TB m₂ bd S lim UA lim₂ w₃ (stored₃ q)
+        right-list-is : (a₃ || z₃) ≡ false → soft w₃ c h ≡ toRight h incoming (message left-after)
+        right-list-is q = right-list begin mid left-under w₃ (stored₃ q)
 
-        room₃ : Room plan mask N t h (2 * p + 1) (b + h) c first w₃
-        room₃ = record {
-          size = refl;
-          fit = omega (arith, fits .fit, is-two, m₃ .kept .long);
-          rows = omega (arith, fits .rows, suc-mul t N);
-          within = omega (arith, fits .within, is-two);
-          planned = omega (arith, planned-high);
-          masked = omega (arith, room .masked, room .size, is-two);
-          cuts = wr;
-          bound = 2 * bd;
-          limited = limit′;
-          small = λ q. subst (SmallAll t (2 * bd)) (sym (in₃ (k₃ ∙ q))) (small-toRight t bd L S (message A));
-          held = subst (λ (X : Tree). Held plan t (2 * p + 1) (2 * bd) (begun first plan t (2 * p + 1) (part mask (b + 2 ^ t) t) X)) (sym (m₃ .rights)) HBB;
-        }
-          where
-            planned-high : (2 * p + 1 + 1) * h ≤ length plan
-            planned-high = omega (arith, room .planned, ap (λ (z : ℕ). (p + 1) * z) (room .size ∙ is-two), mul-add (p + 1) h h, add-mul p 1 h, add-mul (2 * p) 1 h, add-mul (2 * p + 1) 1 h, mul-assoc 2 p h)
+        room-right : Room plan mask N t h (2 * p + 1) (b + h) c first w₃
+        room-right = child-room (mid₃ .kept .long) (omega arith) (omega arith) (planned-both .1) right-cuts
+            (λ q. subst (SmallAll t (2 * bound)) (sym (right-list-is (skip₃ ∙ q))) (small-toRight t bound incoming incoming-small (message left-after)))
+            (subst (λ (X : Tree). Held plan t (2 * p + 1) (2 * bound) (begun first plan t (2 * p + 1) right-mask X)) (sym (mid₃ .rights)) right-held-before)
 
         -- the right child's walk
-        right-walk : (s : Bool) → s₃ ≡ s → walk plan t (2 * p + 1) (part mask (b + 2 ^ t) t) BB (soft w₃ c h) ≡ B
-        right-walk true q = walk-constant plan t (2 * p + 1) (part mask (b + 2 ^ t) t) BB (soft w₃ c h) (toRight h L (message A)) (sym k₃ ∙ q)
-        right-walk false q = ap (walk plan t (2 * p + 1) (part mask (b + 2 ^ t) t) BB) (in₃ q)
+        right-walk : (s : Bool) → (a₃ || z₃) ≡ s → walk plan t (2 * p + 1) right-mask right-before (soft w₃ c h) ≡ right-after
+        right-walk true q = walk-constant plan t (2 * p + 1) right-mask right-before (soft w₃ c h) (toRight h incoming (message left-after)) (sym skip₃ ∙ q)
+        right-walk false q = ap (walk plan t (2 * p + 1) right-mask right-before) (right-list-is q)
 
-        module _ (w₄ : List ℤ) (v₄ : Visited plan mask N t (2 * p + 1) (b + h) c first w₃ w₄) where
-          m₄ : Mid N t b x w w₄ A B
-          m₄ = subst (λ (T : Tree). Mid N t b x w w₄ A T) (right-walk s₃ refl) (mid-right N t b x w fits w₃ A TB m₃ plan mask (2 * p + 1) first w₄ v₄)
-
-          listed₄ : s₃ ≡ false → Holds w₄ c h (plusBox w₄ x (t * N + b) (x + h))
-          listed₄ q = right-stays N t b x w fits w₂ A TB m₂ w₃ w₄ (stored₃ q) (v₄ .kept)
+        module _ {w₄ : List ℤ} (done : Visited plan mask N t (2 * p + 1) (b + h) c first w₃ w₄) where
+          mid₄ : Mid N t b x w w₄ left-after right-after
+          mid₄ = subst (λ (T : Tree). Mid N t b x w w₄ left-after T) (right-walk (a₃ || z₃) refl) (mid-right begin mid₃ plan mask (2 * p + 1) first w₄ done)
 
           -- the first half of the message
-          half : List ℤ
-          half = write w₄ (suc t * N + b) h (boxPlus w₄ (t * N + b) (x + h) (t * N + b + h))
+          half-stored : List ℤ
+          half-stored = write w₄ (suc t * N + b) h (lowHalf w₄ x (t * N + b) h)
 
-          mₕ : Mid N t b x w half A B
-          unfolding half
-          mₕ = mid-row N t b x w fits w₄ A B m₄ half (suc t * N + b) _ refl (omega arith) (omega arith)
+          mid-half : Mid N t b x w half-stored left-after right-after
+          unfolding half-stored
+          mid-half = mid-row begin mid₄ half-stored (suc t * N + b) _ refl (omega arith) (omega arith)
 
-          module _ (w₅ : List ℤ) (e₅ : NodeStored N (suc t) b x h t w₄ w₅) where
-            m₅ : Mid N t b x w w₅ A B
-            unfolding half
-            m₅ = mid-row N t b x w fits half A B mₕ w₅ (suc t * N + b + h) _ e₅ (omega arith) (omega arith)
+          module _ {w₅ : List ℤ} (e₅ : w₅ ≡ nodeWords w₄ (suc t * N + b) x (t * N + b) h) where
+            mid₅ : Mid N t b x w w₅ left-after right-after
+            unfolding half-stored
+            mid₅ = mid-row begin mid-half w₅ (suc t * N + b + h) _ e₅ (omega arith) (omega arith)
 
-            own : soft w₅ (suc t * N + b) (2 ^ suc t) ≡ toNode h L (message A) (message B)
-            unfolding soft toNode half
-            own = sym (tabulate-halves t (λ k. softOf (word w₅ (suc t * N + b + k))) _ _
-                (λ k lt. sym (ap softOf (source-below (pos 0) half w₅ (suc t * N + b + h) h _ (suc t * N + b + k) e₅ (omega arith))
-                ∙ low-half N t b x w fits w₄ A B m₄ bd S lim UB UA half refl k lt))
+            message-is : soft w₅ (suc t * N + b) (2 ^ suc t) ≡ toNode h incoming (message left-after) (message right-after)
+            unfolding soft toNode half-stored
+            message-is = sym (tabulate-halves t (λ k. softOf (word w₅ (suc t * N + b + k))) _ _
+                (λ k lt. sym (ap softOf (source-below (pos 0) half-stored w₅ (suc t * N + b + h) h _ (suc t * N + b + k) e₅ (omega arith))
+                ∙ low-half begin mid₄ right-under left-under half-stored refl k lt))
                 (λ k lt. sym (ap (λ (i : ℕ). softOf (word w₅ i)) (let q : suc t * N + b + (k + h) ≡ suc t * N + b + h + k = omega arith in q)
-                ∙ high-half N t b x w fits w₄ A B m₄ bd S lim UB UA half w₅ (length-write (pos 0) w₄ (suc t * N + b) h _) e₅ k lt)))
+                ∙ high-half begin mid₄ right-under left-under half-stored w₅ (length-write (pos 0) w₄ (suc t * N + b) h _) e₅ k lt)))
 
-            visited : Visited plan mask N (suc t) p b x first w w₅
+            node-visited : Visited plan mask N (suc t) p b x first w w₅
             unfolding treeAt
-            visited = record {
-              tree = node-path own (m₅ .lefts) (m₅ .rights)
-                  ∙ sym (walk-through plan t p (part mask b (suc t)) whole L uncut
-                  ∙ ap₂ (λ (q r : List ℕ). descend (walk plan t (2 * p) q) (walk plan t (2 * p + 1) r) (2 ^ t) whole L) (part-left mask b t) (part-right mask b t)
-                  ∙ ap₂ (λ (X Y : Tree). descend (walk plan t (2 * p) (part mask b t)) (walk plan t (2 * p + 1) (part mask (b + 2 ^ t) t)) (2 ^ t) (node [] X Y) L) whole-left whole-right);
-              kept = m₅ .kept;
+            node-visited = record {
+              tree = node-path message-is (mid₅ .lefts) (mid₅ .rights)
+                  ∙ sym (walk-through plan t p (part mask b (suc t)) node-before incoming uncut
+                  ∙ ap₂ (λ (q r : List ℕ). descend (walk plan t (2 * p) q) (walk plan t (2 * p + 1) r) (2 ^ t) node-before incoming) (part-left mask b t) (part-right mask b t)
+                  ∙ ap₂ (λ (X Y : Tree). descend (walk plan t (2 * p) left-mask) (walk plan t (2 * p + 1) right-mask) (2 ^ t) (node [] X Y) incoming) before-left before-right);
+              kept = mid₅ .kept;
             }
 
-  -- a child whose message is fixed is skipped
-  skip-left : (a z : Bool) → Known plan mask h (2 * p) b a z → SkipOf plan mask h (2 * p) b (a || z)
-  skip-left a z f = fixed-constant plan h (2 * p) (part mask b t) a z f
+    -- what the left child's message is known to be
+    left-certain : {v : List ℤ} {B : Tree} → Mid N t b x w v left-after B → a₁ ≡ true → Holds v (t * N + b) h (λ k. pos mark)
+    left-certain mid q = left-holds begin mid certain (walk-certain plan t (2 * p) left-mask left-before (toLeft h incoming (message right-before)) a₁ z₁ known₁ q)
 
-  skip-right : (a z : Bool) → Known plan mask h (2 * p + 1) (b + h) a z → SkipOf plan mask h (2 * p + 1) (b + h) (a || z)
-  skip-right a z f = fixed-constant plan h (2 * p + 1) (part mask (b + 2 ^ t) t) a z f
+    both-done : {w₂ : List ℤ} (mid : Mid N t b x w w₂ left-after stored-right) {a₃ z₃ : Bool} (known₃ : Known plan mask h (2 * p + 1) (b + h) a₃ z₃) {w₄ : List ℤ}
+        → RightDone plan mask N p b x h t c first (a₃ || z₃) w₂ w₄ → AfterRight plan mask N (suc t) p b x first w h t c a₁ a₃ z₃ w₄
+    both-done {w₂} mid {a₃} {z₃} known₃ {w₄} d =
+        let here : Mid N t b x w w₄ left-after right-after = mid₄ mid known₃ (d .stored) (d .visited) in
+        record {
+          message-asked = (
+            in-range begin here right-under left-under,
+            (
+              left-certain here,
+              (
+                λ q. right-holds begin here softZero (walk-zero plan t (2 * p + 1) right-mask right-before (toRight h incoming (message left-after)) a₃ z₃ known₃ q),
+                λ q. (right-sums begin here left-under, right-stays begin mid (d .list) w₄ (stored₃ mid known₃ (d .stored) q) (d .visited .kept)),
+              ),
+            ),
+          );
+          visited = node-visited mid known₃ (d .stored) (d .visited);
+        }
+
+    left-done : {w₂ : List ℤ} → LeftDone plan mask N p b x h t c first (a₁ || z₁) w w₂ → AfterLeft plan mask N (suc t) p b x first w h t c a₁ w₂
+    left-done {w₂} d =
+        let here : Mid N t b x w w₂ left-after stored-right = mid₂ (d .stored) (d .visited) in
+        record {
+          list-asked = ((words-list begin here, words-left begin here left-under, right-sums begin here left-under), left-certain here);
+          right-room = λ known₃ e₃. room-right here known₃ e₃;
+          after-right = λ known₃ d₄. both-done here known₃ d₄;
+        }
 
   pub run-at : Run plan mask N (suc t) p b x first w (2 ^ t) t (x + (2 ^ t + 2 ^ t))
   run-at = record {
-    kind-left = λ e. wellCut-cut plan t (2 * p) (part mask b t) e wl;
-    kind-right = λ e. wellCut-cut plan t (2 * p + 1) (part mask (b + 2 ^ t) t) e wr;
-    one = (words-list N t b x w fits w TA TB m₀ bd S lim, words-high N t b x w fits w TA TB m₀ bd S lim, λ q. left-sums N t b x w fits w TA TB m₀ bd S lim (UTB q));
-    two = λ a₁ z₁ f₁ w₁ e₁. room₁ (a₁ || z₁) (skip-left a₁ z₁ f₁) w₁ e₁;
-    three = λ a₁ z₁ f₁ w₂ d₂.
-        let m = m₂ (a₁ || z₁) (skip-left a₁ z₁ f₁) (d₂ .list) (d₂ .stored) w₂ (d₂ .visited) in (
-          (words-list N t b x w fits w₂ A TB m bd S lim, words-left N t b x w fits w₂ A TB m bd S lim UA, right-sums N t b x w fits w₂ A TB m bd S lim UA lim₂),
-          λ q. left-holds N t b x w fits w₂ A TB m certain (walk-certain plan t (2 * p) (part mask b t) BA (toLeft h L (message BB)) a₁ z₁ f₁ q),
-        );
-    four = λ a₁ z₁ f₁ w₂ d₂ a₃ z₃ f₃ w₃ e₃. room₃ (a₁ || z₁) (skip-left a₁ z₁ f₁) (d₂ .list) (d₂ .stored) w₂ (d₂ .visited) (a₃ || z₃) (skip-right a₃ z₃ f₃) w₃ e₃;
-    five = λ a₁ z₁ f₁ w₂ d₂ a₃ z₃ f₃ w₄ d₄.
-        let m = m₄ (a₁ || z₁) (skip-left a₁ z₁ f₁) (d₂ .list) (d₂ .stored) w₂ (d₂ .visited) (a₃ || z₃) (skip-right a₃ z₃ f₃) (d₄ .list) (d₄ .stored) w₄ (d₄ .visited) in (
-          (
-            words-list N t b x w fits w₄ A B m bd S lim,
-            words-left N t b x w fits w₄ A B m bd S lim UA,
-            left-sums N t b x w fits w₄ A B m bd S lim UB,
-            up-sums N t b x w fits w₄ A B m bd S lim UB UA,
-            right-sums N t b x w fits w₄ A B m bd S lim UA lim₂,
-          ),
-          (
-            λ q. left-holds N t b x w fits w₄ A B m certain (walk-certain plan t (2 * p) (part mask b t) BA (toLeft h L (message BB)) a₁ z₁ f₁ q),
-            (
-              λ q. right-holds N t b x w fits w₄ A B m softZero (walk-zero plan t (2 * p + 1) (part mask (b + 2 ^ t) t) BB (toRight h L (message A)) a₃ z₃ f₃ q),
-              listed₄ (a₁ || z₁) (skip-left a₁ z₁ f₁) (d₂ .list) (d₂ .stored) w₂ (d₂ .visited) (a₃ || z₃) (skip-right a₃ z₃ f₃) (d₄ .list) (d₄ .stored) w₄ (d₄ .visited),
-            ),
-          ),
-        );
-    done = λ a₁ z₁ f₁ w₂ d₂ a₃ z₃ f₃ w₄ d₄ w₅ e₅. visited (a₁ || z₁) (skip-left a₁ z₁ f₁) (d₂ .list) (d₂ .stored) w₂ (d₂ .visited) (a₃ || z₃) (skip-right a₃ z₃ f₃) (d₄ .list) (d₄ .stored) w₄ (d₄ .visited) w₅ e₅;
+    kind-left = λ e. wellCut-cut plan t (2 * p) left-mask e left-cuts;
+    kind-right = λ e. wellCut-cut plan t (2 * p + 1) right-mask e right-cuts;
+    list-asked = (words-list begin mid₀, words-high begin mid₀, λ q. left-sums begin mid₀ (stored-right-under q));
+    left-room = λ known₁ e₁. room-left known₁ e₁;
+    after-left = λ known₁ d₂. left-done known₁ d₂;
   }
 
 -- the same in the code's terms
-pub run : (plan mask : List ℕ) (N t s p b x : ℕ) (first : Bool) (w : List ℤ) → (t ≡ 0 → ⊥) → Room plan mask N t s p b x first w → isCut plan p ≡ false
+pub run : {plan mask : List ℕ} {N t s p b x : ℕ} {first : Bool} {w : List ℤ} → (t ≡ 0 → ⊥) → Room plan mask N t s p b x first w → isCut plan p ≡ false
     → Run plan mask N t p b x first w (s / 2) (t - 1) (x + s)
-run plan mask N zero s p b x first w ne room uncut = absurd (ne refl)
-run plan mask N (suc t) s p b x first w ne room uncut =
-    let two : s ≡ 2 ^ t + 2 ^ t = room .size ∙ double t in
+run {t = zero} ne room uncut = absurd (ne refl)
+run {plan = plan} {mask = mask} {N = N} {t = suc t} {s = s} {p = p} {b = b} {x = x} {first = first} {w = w} ne room uncut =
+    let twice : s ≡ 2 ^ t + 2 ^ t = room .size ∙ double t in
     let is-half : 2 ^ t ≡ s / 2 = omega arith in
     let is-pred : t ≡ suc t - 1 = omega arith in
     let is-at : x + (2 ^ t + 2 ^ t) ≡ x + s = omega arith in

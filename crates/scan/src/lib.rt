@@ -21,7 +21,8 @@ ghost use lib.IntN.{pos};
 ghost use mathlib.Core.List.{map};
 ghost use Rattle.model.specs.Soft.{finite, mark};
 ghost use Rattle.model.specs.Scan.{scan};
-ghost use Rattle.words.specs.Words.{stored, write, Holds, boxPlus, plusBox, Words, Sums, BoxSums, FiniteBoxSums};
+ghost use Rattle.words.specs.Words.{stored, write, Holds};
+ghost use Rattle.halves.specs.Halves.{Places, InRange, RightListAt, nodeWords};
 ghost use mathlib.Core.Bool.{true, false, cond, _||_};
 ghost use Rattle.scan.specs.Space.{Room, Visited, Ready, Swept, withLlrs, Decodable};
 
@@ -49,12 +50,12 @@ fn own_message(
     c: usize,
     h: usize,
 )
-    requires { ⌜ (l + (h + h) ≤ m) × (m + (h + h) ≤ x) × (x + (h + h) ≤ c) × (c + h ≤ length (now w)) ⌝ }
-    requires { ⌜ Words (now w) x h × Words (now w) l h × Sums (now w) (x + h) (l + h) h × BoxSums (now w) x l (l + h) h × FiniteBoxSums (now w) x l (x + h) h ⌝ }
+    requires { ⌜ Places m x l h c × (c + h ≤ length (now w)) ⌝ }
+    requires { ⌜ InRange (now w) x l h ⌝ }
     requires { ⌜ (left .certain ≡ true → Holds (now w) l h (λ k. pos mark)) ⌝ }
     requires { ⌜ (right .zero ≡ true → Holds (now w) (l + h) h (λ k. pos 0)) ⌝ }
-    requires { ⌜ ((right .certain || right .zero) ≡ false → Holds (now w) c h (plusBox (now w) x l (x + h))) ⌝ }
-    ensures { λ _. ⌜ now (w .exit) ≡ write (write (now (w .entry)) m h (boxPlus (now (w .entry)) l (x + h) (l + h))) (m + h) h (plusBox (now (w .entry)) x l (l + h)) ⌝ }
+    requires { ⌜ ((right .certain || right .zero) ≡ false → RightListAt (now w) x l c h) ⌝ }
+    ensures { λ _. ⌜ now (w .exit) ≡ nodeWords (now (w .entry)) m x l h ⌝ }
 {
     if left.certain {
         message_left_certain(w, m, x, l, h);
@@ -67,74 +68,76 @@ fn own_message(
     }
 }
 
-// Visits node p of stage t, of s positions from b on, whose incoming list is at x. In the first sweep no stored message is read before it is written.
+// Visits a node: its number is `node`, its stage `stage`, its `size` positions are those from `from` on, and its incoming list is at `list`. The mask has
+// `len` positions (N in the specs), and the message of stage u at position i is at u * N + i. In the first sweep no stored message is read before it is
+// written. Messages of the node and of its children are at m, l and r; a child's incoming list is made at c.
 fn visit(
     work: &mut [i32],
     plan: &[u8],
     mask: &[u8],
-    n: usize,
-    t: usize,
-    s: usize,
-    p: usize,
-    b: usize,
-    x: usize,
+    len: usize,
+    stage: usize,
+    size: usize,
+    node: usize,
+    from: usize,
+    list: usize,
     first: bool,
 )
-    requires { ⌜ Room (now plan) (now mask) n t s p b x first (now work) ⌝ }
-    ensures { λ _. ⌜ Visited (now (plan .entry)) (now (mask .entry)) n t p b x first (now (work .entry)) (now (work .exit)) ⌝ }
+    requires { ⌜ Room (now plan) (now mask) len stage size node from list first (now work) ⌝ }
+    ensures { λ _. ⌜ Visited (now (plan .entry)) (now (mask .entry)) len stage node from list first (now (work .entry)) (now (work .exit)) ⌝ }
 {
-    let m = t * n + b;
-    let cut = plan[p];
+    let m = stage * len + from;
+    let cut = plan[node];
     if cut == 1 {
-        let e = b + s;
-        let k = cut_kind(&mask[b..e]);
-        cut_message(work, k, m, x, s);
+        let end = from + size;
+        let k = cut_kind(&mask[from..end]);
+        cut_message(work, k, m, list, size);
         return;
     }
-    let h = s / 2;
-    let u = t - 1;
-    let l = u * n + b;
+    let h = size / 2;
+    let below = stage - 1;
+    let l = below * len + from;
     let r = l + h;
-    let c = x + s;
-    let q = 2 * p;
-    let d = b + h;
-    let left = fixed_message(plan, mask, q, b, h);
+    let c = list + size;
+    let child = 2 * node;
+    let middle = from + h;
+    let left = fixed_message(plan, mask, child, from, h);
     if is_fixed(left) {
         fixed_child(work, left, l, h);
     } else {
-        left_list(work, first, c, x, r, h);
-        visit(work, plan, mask, n, u, h, q, b, c, first);
+        left_list(work, first, c, list, r, h);
+        visit(work, plan, mask, len, below, h, child, from, c, first);
     }
-    let right = fixed_message(plan, mask, q + 1, d, h);
+    let right = fixed_message(plan, mask, child + 1, middle, h);
     if is_fixed(right) {
         fixed_child(work, right, r, h);
     } else {
-        right_list(work, left.certain, c, x, l, h);
-        visit(work, plan, mask, n, u, h, q + 1, d, c, first);
+        right_list(work, left.certain, c, list, l, h);
+        visit(work, plan, mask, len, below, h, child + 1, middle, c, first);
     }
-    own_message(work, left, right, m, x, l, c, h);
+    own_message(work, left, right, m, list, l, c, h);
 }
 
-// One sweep along the plan: a visit of the root with the incoming list that stands past the rows of messages. The first sweep takes the messages
-// before it as they are by definition, whatever is stored.
-pub fn sweep(work: &mut [i32], plan: &[u8], mask: &[u8], n: usize, t: usize, first: bool)
-    requires { ⌜ Ready (now plan) (now mask) n t first (now work) ⌝ }
-    ensures { λ _. ⌜ Swept (now (plan .entry)) (now (mask .entry)) n t first 1 (now (work .entry)) (now (work .exit)) ⌝ }
+// One sweep along the plan: a visit of the root, which is of this stage, with the incoming list that stands past the rows of messages. The first sweep
+// takes the messages before it as they are by definition, whatever is stored.
+pub fn sweep(work: &mut [i32], plan: &[u8], mask: &[u8], len: usize, stage: usize, first: bool)
+    requires { ⌜ Ready (now plan) (now mask) len stage first (now work) ⌝ }
+    ensures { λ _. ⌜ Swept (now (plan .entry)) (now (mask .entry)) len stage first 1 (now (work .entry)) (now (work .exit)) ⌝ }
 {
-    let x = n * (t + 1);
-    visit(work, plan, mask, n, t, n, 1, 0, x, first);
+    let list = len * (stage + 1);
+    visit(work, plan, mask, len, stage, len, 1, 0, list, first);
 }
 
 // As many sweeps as `count` says, with the same plan.
-pub fn sweeps(work: &mut [i32], plan: &[u8], mask: &[u8], n: usize, t: usize, count: usize)
-    requires { ⌜ Ready (now plan) (now mask) n t true (now work) ⌝ }
+pub fn sweeps(work: &mut [i32], plan: &[u8], mask: &[u8], len: usize, stage: usize, count: usize)
+    requires { ⌜ Ready (now plan) (now mask) len stage true (now work) ⌝ }
     requires { ⌜ 0 < count ⌝ }
-    ensures { λ _. ⌜ Swept (now (plan .entry)) (now (mask .entry)) n t true count (now (work .entry)) (now (work .exit)) ⌝ }
+    ensures { λ _. ⌜ Swept (now (plan .entry)) (now (mask .entry)) len stage true count (now (work .entry)) (now (work .exit)) ⌝ }
 {
     let mut k: usize = 0;
     while k < count {
         let first = k == 0;
-        sweep(work, plan, mask, n, t, first);
+        sweep(work, plan, mask, len, stage, first);
         k += 1;
     }
 }
@@ -145,16 +148,16 @@ pub fn soft_values(
     plan: &[u8],
     llrs: &[i16],
     count: usize,
-    n: usize,
-    t: usize,
+    len: usize,
+    stage: usize,
     out: &mut [i32],
     work: &mut [i32],
 )
-    requires { ⌜ Decodable (now plan) (now mask) (now llrs) count n t (length (now out)) (length (now work)) ⌝ }
-    ensures { λ _. ⌜ now (out .exit) ≡ stored (now (out .entry)) 0 n (scan t (now (mask .entry)) (map finite (now (llrs .entry))) count) ⌝ }
-    ensures { λ _. ⌜ Swept (now (plan .entry)) (now (mask .entry)) n t true count (withLlrs n t (now (llrs .entry)) (now (work .entry))) (now (work .exit)) ⌝ }
+    requires { ⌜ Decodable (now plan) (now mask) (now llrs) count len stage (length (now out)) (length (now work)) ⌝ }
+    ensures { λ _. ⌜ now (out .exit) ≡ stored (now (out .entry)) 0 len (scan stage (now (mask .entry)) (map finite (now (llrs .entry))) count) ⌝ }
+    ensures { λ _. ⌜ Swept (now (plan .entry)) (now (mask .entry)) len stage true count (withLlrs len stage (now (llrs .entry)) (now (work .entry))) (now (work .exit)) ⌝ }
 {
-    load_llrs(work, n * (t + 1), llrs);
-    sweeps(work, plan, mask, n, t, count);
-    copy_words(&work[..], t * n, out, 0, n);
+    load_llrs(work, len * (stage + 1), llrs);
+    sweeps(work, plan, mask, len, stage, count);
+    copy_words(&work[..], stage * len, out, 0, len);
 }

@@ -10,7 +10,7 @@ use borrow.Author.Tests.{eqb-true, ne-eqb}
 use mathlib.Core.List.{List}
 use Rattle.model.specs.Bounds.{Small, Under}
 use Rattle.model.proofs.Lists.{getD-tabulate}
-use Rattle.words.specs.Words.{Word, xor, softOf, boxWord, addWord, word, soft, boxAt, plusAt, boxPlus, plusBox}
+use Rattle.words.specs.Words.{Word, xor, softOf, boxWord, addWord, word, soft}
 use Rattle.model.specs.Soft.{mark, wordOf, Soft, finite, certain, softZero, _at_, box, boxℤ, plus, signed, negative, differ}
 
 -- box of two words as numbers, with the sign as the machine finds it
@@ -91,23 +91,6 @@ box-certain-r a h = boxWord-is a (pos mark) h (omega arith) ∙ box-mark-r a h
 pub add-zero : (a : ℤ) → addWord a (pos 0) ≡ a
 unfolding addWord plus
 add-zero a = ⊎-elim (λ p. rw (p .1) (sym (p .0))) (λ p. rw p (+ℤ-idr a)) (soft-cases a)
-
-pub box-certain : (w : List ℤ) (a b k : ℕ) → word w (b + k) ≡ pos mark → Word (word w (a + k)) → boxAt w a b k ≡ word w (a + k)
-box-certain w a b k e h = ap (boxWord (word w (a + k))) e ∙ box-certain-r (word w (a + k)) h
-
--- what is stored where one word of the box is certain, or where 0 is added
-module _ (w : List ℤ) (a b c k : ℕ) where
-  pub box-plus-certain : word w (a + k) ≡ pos mark → Word (plusAt w b c k) → boxPlus w a b c k ≡ plusAt w b c k
-  box-plus-certain e h = ap (λ (z : ℤ). boxWord z (plusAt w b c k)) e ∙ box-certain-l (plusAt w b c k) h
-
-  pub plus-box-certain : word w (b + k) ≡ pos mark → Word (word w (a + k)) → plusBox w a b c k ≡ plusAt w a c k
-  plus-box-certain e h = ap (λ (z : ℤ). addWord z (word w (c + k))) (box-certain w a b k e h)
-
-  pub box-plus-zero : word w (c + k) ≡ pos 0 → boxPlus w a b c k ≡ boxAt w a b k
-  box-plus-zero e = ap (boxWord (word w (a + k))) (ap (addWord (word w (b + k))) e ∙ add-zero (word w (b + k)))
-
-  pub plus-box-zero : word w (c + k) ≡ pos 0 → plusBox w a b c k ≡ boxAt w a b k
-  plus-box-zero e = ap (addWord (boxAt w a b k)) e ∙ add-zero (boxAt w a b k)
 
 pub signed-is : (s : Bool) (n : ℕ) → cond s (negℤ (pos n)) (pos n) ≡ signed s n
 signed-is true n = refl

@@ -1,5 +1,5 @@
 -- Signed words: what the machine reads back from bits, and bounds of negations and sums, over ℕ. Assumes nothing.
-use mathlib.Core.Path.{_≡_, refl, sym, ap, _∙_, subst}
+use mathlib.Core.Path.{_≡_, refl, sym, ap, ap₂, _∙_, subst}
 use mathlib.Core.Bool.{Bool, true, false, cond, not, Bool·beq}
 use Prim.Native.Nat.{ℕ, zero, suc, _^_, _<_, min, zero-le}
 use native.Mathlib.Omega.{arith}
@@ -49,6 +49,10 @@ mark-no z h e = h (ap (ofZ w32) e)
 -- what is read back from the bits of a number that fits: of an element's `.given` and of a call's `.ok`
 pub back : {z : ℤ} → mag z < 2 ^ 31 → toZ w32 (ofZ w32 z) ≡ z
 back h = toZ-ofZ (record { sfits = h })
+
+-- what is read back of the result of a call that computes f
+pub back-of : {z p q p′ q′ : ℤ} (f : ℤ → ℤ → ℤ) → mag z < 2 ^ 31 → z ≡ f p q → p ≡ p′ → q ≡ q′ → toZ w32 (ofZ w32 z) ≡ f p′ q′
+back-of f ok e p q = back ok ∙ e ∙ ap₂ f p q
 
 pub back16 : {z : ℤ} → mag z < 2 ^ 15 → toZ w16 (ofZ w16 z) ≡ z
 back16 h = toZ-ofZ (record { sfits = h })

@@ -11,7 +11,7 @@ use lib.ListN.{length, getD, set, take, drop, length-set, length-drop}
 use lib.Seq.{getD-set-same, getD-set-other, ext-getD, set-comm, length-take-le, getD-take, getD-drop, set-append-left}
 use borrow.Rule.Slice.PartMut.{midOf, postOf, putMid, put-same}
 use lib.IntN.{ℤ}
-use Rattle.words.specs.Words.{write, four, Apart}
+use Rattle.words.specs.Words.{write, four}
 
 pub lt-or-ge : (j a : ℕ) → (j < a) ⊎ (a ≤ j)
 lt-or-ge j a = pick (decLt j a)
@@ -37,10 +37,6 @@ module _ {A : Type 0} (z : A) where
   unfolding write
   write-above w a zero f j h = refl
   write-above w a (suc n) f j h = getD-set-other (write w a n f) (a + n) j (f n) z (omega arith) ∙ write-above w a n f j (omega arith)
-
-  -- word k of a source that shares nothing with the n words from a, after m ≤ n of them are stored
-  pub write-apart : (w : List A) (a m n : ℕ) (f : ℕ → A) (b k : ℕ) → Apart n a b → m ≤ n → k < n → getD (write w a m f) (b + k) z ≡ getD w (b + k) z
-  write-apart w a m n f b k h le lt = ⊎-elim (λ p. write-above w a m f (b + k) (omega arith)) (λ p. write-below w a m f (b + k) (omega arith)) h
 
   -- a stored word
   pub write-in : (w : List A) (a n : ℕ) (f : ℕ → A) (k : ℕ) → k < n → a + n ≤ length w → getD (write w a n f) (a + k) z ≡ f k
@@ -82,10 +78,6 @@ module _ {A : Type 0} (z : A) where
   pub store-next : (w₀ w : List A) (d k n : ℕ) (f g : ℕ → A) → w ≡ write w₀ d k f → ((j : ℕ) → j < n → g j ≡ f (k + j)) → write w (d + k) n g ≡ write w₀ d (k + n) f
   store-next w₀ w d k n f g e q =
       write-ext w (d + k) n g (λ j. f (k + j)) q ∙ ap (λ (l : List A). write l (d + k) n (λ j. f (k + j))) e ∙ write-more w₀ d k n f
-
-  -- word k of a source, while the first k words from d are stored
-  pub source : (w₀ w : List A) (d k h : ℕ) (f : ℕ → A) (b : ℕ) → w ≡ write w₀ d k f → Apart h d b → k < h → getD w (b + k) z ≡ getD w₀ (b + k) z
-  source w₀ w d k h f b e ap′ lt = ap (λ (l : List A). getD l (b + k) z) e ∙ write-apart w₀ d k h f b k ap′ (omega arith) lt
 
   -- a word from d + k on, or before d, while the first k words from d are stored
   pub source-above : (w₀ w : List A) (d k : ℕ) (f : ℕ → A) (j : ℕ) → w ≡ write w₀ d k f → d + k ≤ j → getD w j z ≡ getD w₀ j z

@@ -1,6 +1,5 @@
 -- 32-bit words that hold soft values: 2147483647 is the mark of certain. Assumes nothing: these are definitions.
 use mathlib.Core.Path.{_≡_}
-use mathlib.Core.Logic.{_⊎_}
 use mathlib.Core.Bool.{Bool, cond, not, Bool·beq}
 use mathlib.Core.List.{List}
 use Prim.Native.Nat.{ℕ, zero, suc, _+_, _*_, _≤_, _<_}
@@ -53,31 +52,11 @@ four p q r s (suc (suc (suc k))) = s
 abbrev pub stored : List ℤ → ℕ → ℕ → List Soft → List ℤ
 stored w m s M = write w m s (λ k. wordOf (M at k))
 
--- the n words from a and the n words from b share no word
-abbrev pub Apart : ℕ → ℕ → ℕ → Type 0
-Apart n a b = (a + n ≤ b) ⊎ (b + n ≤ a)
-
 -- the n words from a on are f 0, .., f (n - 1)
 abbrev pub Holds : List ℤ → ℕ → ℕ → (ℕ → ℤ) → Type 0
 Holds w a n f = (k : ℕ) → k < n → word w (a + k) ≡ f k
 
--- ---- what the routines that combine halves store
-abbrev pub boxAt : List ℤ → ℕ → ℕ → ℕ → ℤ
-boxAt w a b k = boxWord (word w (a + k)) (word w (b + k))
-
-abbrev pub plusAt : List ℤ → ℕ → ℕ → ℕ → ℤ
-plusAt w a b k = addWord (word w (a + k)) (word w (b + k))
-
-abbrev pub boxPlus : List ℤ → ℕ → ℕ → ℕ → ℕ → ℤ
-boxPlus w a b c k = boxWord (word w (a + k)) (addWord (word w (b + k)) (word w (c + k)))
-
-abbrev pub plusBox : List ℤ → ℕ → ℕ → ℕ → ℕ → ℤ
-plusBox w a b c k = addWord (boxWord (word w (a + k)) (word w (b + k))) (word w (c + k))
-
-abbrev pub plusFront : List ℤ → ℕ → ℕ → ℤ
-plusFront w d k = addWord (word w (d + k)) (word w k)
-
--- ---- what they require of the words they read
+-- none of the h words from a on is the least 32-bit number
 abbrev pub Words : List ℤ → ℕ → ℕ → Type 0
 Words w a h = (k : ℕ) → k < h → Word (word w (a + k))
 
@@ -88,18 +67,6 @@ Added a b = (natAbs a < mark) × Word (addWord a b)
 -- both are finite, and the sum is a word
 abbrev pub Finite : ℤ → ℤ → Type 0
 Finite a b = (natAbs a < mark) × (natAbs b < mark) × Word (addWord a b)
-
-abbrev pub FiniteSums : List ℤ → ℕ → ℕ → ℕ → Type 0
-FiniteSums w a b h = (k : ℕ) → k < h → Finite (word w (a + k)) (word w (b + k))
-
-abbrev pub Sums : List ℤ → ℕ → ℕ → ℕ → Type 0
-Sums w b c h = (k : ℕ) → k < h → Added (word w (b + k)) (word w (c + k))
-
-abbrev pub BoxSums : List ℤ → ℕ → ℕ → ℕ → ℕ → Type 0
-BoxSums w a b c h = (k : ℕ) → k < h → Added (boxWord (word w (a + k)) (word w (b + k))) (word w (c + k))
-
-abbrev pub FiniteBoxSums : List ℤ → ℕ → ℕ → ℕ → ℕ → Type 0
-FiniteBoxSums w a b c h = (k : ℕ) → k < h → Finite (boxWord (word w (a + k)) (word w (b + k))) (word w (c + k))
 
 -- an incoming list whose sums stay below the mark
 pub record Incoming (w : List ℤ) (x s : ℕ) : Type 0 where

@@ -1,150 +1,49 @@
 -- `combine::node_message` meets its contract. The loop's invariant: the first k words of both halves are stored, and nothing else is. Assumes nothing.
-use mathlib.Core.Path.{_≡_, refl, sym, ap₂, _∙_, subst, subst₂}
-use lib.IntN.{pos}
-use Prim.Native.Nat.{ℕ, _+_, _-_, _≤_}
+use mathlib.Core.Path.{sym, subst, subst₂}
+use Prim.Native.Nat.{_-_}
 use native.Mathlib.Omega.{arith}
-use native.Mathlib.Nat.{le-antisymm}
-use lib.ListN.{length, length-set}
-use mir.Val.{toZ, ofZ}
-use mir.Syntax.{w32}
-use Rattle.words.specs.Words.{word, write, Word, Added, boxWord, addWord}
-use Rattle.words.proofs.Signed.{back}
-use Rattle.words.proofs.Store.{store-both}
-use Rattle.words.proofs.Halves.{Halves}
-use Rattle.combine.proofs.Steps.{Sources, sources}
+use lib.ListN.{length-set}
+use Rattle.words.specs.Words.{Word, Added, boxWord, addWord}
+use Rattle.words.proofs.Signed.{back-of}
+use Rattle.words.proofs.Loops.{none-of-both, one-of-both, all-of-both}
+use Rattle.combine.proofs.Steps.{MessageStored, Turn, turn-reads}
 use Rattle.combine.proofs.node_message.Statement.{statement}
 use Rattle.combine.proofs.node_message.Tie as tie
 
 abbrev Inv-loop : tie.InvT-loop
-Inv-loop w₀ m x l h y r g k₀ w k = (k ≤ h) × Halves w₀ m x l h k w × (length w ≡ length w₀)
+Inv-loop w₀ m x l h y r g k₀ w k = MessageStored w₀ m x l h k w
 
 abbrev μ-loop : tie.MeasureT-loop
 μ-loop w₀ m x l h y r g k₀ w k = h - k
 
--- ---- what a turn reads and finds, by the words at entry
-from : (c : tie.In-loop Inv-loop μ-loop) → let a = c .before .before .args in Sources (a .w .now) (c .before .loop .w) (a .x) (a .l) (a .h) (c .before .loop .k)
-from c =
-    let at-loop = c .before in
-    let start = at-loop .before in
-    let a = start .args in
-    sources (a .w .now) (at-loop .loop .w) (a .m) (a .x) (a .l) (a .h) (at-loop .loop .k) (start .pre .0 .0) (start .pre .0 .1) (at-loop .loop .inv .1) (c .loop-test .taken)
-
-first-is : (c : tie.After-first Inv-loop μ-loop) → let at-loop = c .before .before in let a = at-loop .before .args in
-    toZ w32 (ofZ w32 (word (at-loop .loop .w) (a .x + at-loop .loop .k))) ≡ word (a .w .now) (a .x + at-loop .loop .k)
-first-is c = back (c .first .given) ∙ from (c .before) .list _ (omega arith)
-
-second-is : (c : tie.After-second Inv-loop μ-loop) → let at-loop = c .before .before .before in let a = at-loop .before .args in
-    toZ w32 (ofZ w32 (word (at-loop .loop .w) (a .x + a .h + at-loop .loop .k))) ≡ word (a .w .now) (a .x + a .h + at-loop .loop .k)
-second-is c = back (c .second .given) ∙ from (c .before .before) .list _ (omega arith)
-
-left-is : (c : tie.After-left Inv-loop μ-loop) → let at-loop = c .before .before .before .before in let a = at-loop .before .args in
-    toZ w32 (ofZ w32 (word (at-loop .loop .w) (a .l + at-loop .loop .k))) ≡ word (a .w .now) (a .l + at-loop .loop .k)
-left-is c = back (c .left .given) ∙ from (c .before .before .before) .left
-
-right-is : (c : tie.After-right Inv-loop μ-loop) → let at-loop = c .before .before .before .before .before in let a = at-loop .before .args in
-    toZ w32 (ofZ w32 (word (at-loop .loop .w) (a .l + a .h + at-loop .loop .k))) ≡ word (a .w .now) (a .l + a .h + at-loop .loop .k)
-right-is c = back (c .right .given) ∙ from (c .before .before .before .before) .right
-
-sum-is : (c : tie.After-add-words Inv-loop μ-loop) → let at-loop = c .before .before .before .before .before .before in let a = at-loop .before .args in
-    toZ w32 (ofZ w32 (c .add-words .result)) ≡ addWord (word (a .w .now) (a .x + a .h + at-loop .loop .k)) (word (a .w .now) (a .l + a .h + at-loop .loop .k))
-sum-is c = back (c .add-words .ok) ∙ c .add-words .ensures ∙ ap₂ addWord (second-is (c .before .before .before)) (right-is (c .before))
-
-box-is : (c : tie.After-box-words2 Inv-loop μ-loop) → let at-loop = c .before .before .before .before .before .before .before .before in let a = at-loop .before .args in
-    toZ w32 (ofZ w32 (c .box-words2 .result)) ≡ boxWord (word (a .w .now) (a .x + at-loop .loop .k)) (word (a .w .now) (a .l + at-loop .loop .k))
-box-is c =
-    back (c .box-words2 .ok) ∙ c .box-words2 .ensures
-    ∙ ap₂ boxWord (first-is (c .before .before .before .before .before .before)) (left-is (c .before .before .before .before))
-
-add-y : tie.Need-add-y Inv-loop μ-loop
-add-y c = omega arith
-
-add-r : tie.Need-add-r Inv-loop μ-loop
-add-r c = omega arith
-
-add-g : tie.Need-add-g Inv-loop μ-loop
-add-g c = omega arith
-
-loop-holds : tie.Need-loop-holds Inv-loop μ-loop
-loop-holds c = (omega arith, unfold write in refl, refl)
-
-add-first : tie.Need-add-first Inv-loop μ-loop
-add-first c = omega arith
-
-mul-first : tie.Need-mul-first Inv-loop μ-loop
-mul-first c = omega arith
-
-slice-copy-out-first : tie.Need-slice-copy-out-first Inv-loop μ-loop
-slice-copy-out-first c = omega arith
-
-add-second : tie.Need-add-second Inv-loop μ-loop
-add-second c = omega arith
-
-mul-second : tie.Need-mul-second Inv-loop μ-loop
-mul-second c = omega arith
-
-slice-copy-out-second : tie.Need-slice-copy-out-second Inv-loop μ-loop
-slice-copy-out-second c = omega arith
-
-add-left : tie.Need-add-left Inv-loop μ-loop
-add-left c = omega arith
-
-mul-left : tie.Need-mul-left Inv-loop μ-loop
-mul-left c = omega arith
-
-slice-copy-out-left : tie.Need-slice-copy-out-left Inv-loop μ-loop
-slice-copy-out-left c = omega arith
-
-add-right : tie.Need-add-right Inv-loop μ-loop
-add-right c = omega arith
-
-mul-right : tie.Need-mul-right Inv-loop μ-loop
-mul-right c = omega arith
-
-slice-copy-out-right : tie.Need-slice-copy-out-right Inv-loop μ-loop
-slice-copy-out-right c = omega arith
+turn : (c : tie.In-loop Inv-loop μ-loop) → let a = c .before .before .args in Turn (a .w .now) (c .before .loop .w) (a .x) (a .l) (a .h) (c .before .loop .k)
+turn c = let pre = c .before .before .pre in turn-reads (pre .0) (pre .1) (c .before .loop .inv) (c .loop-test .taken)
 
 add-words-requires : tie.Need-add-words-requires Inv-loop μ-loop
 add-words-requires c κs =
-    let turn = c .before .before .before .before in
-    let start = turn .before .before in
-    subst₂ Added (sym (second-is (c .before .before))) (sym (right-is c)) (start .pre .1 .2 (turn .before .loop .k) (turn .loop-test .taken))
+    let in-loop = c .before .before .before .before in
+    subst₂ Added (sym (turn in-loop .second)) (sym (turn in-loop .right)) (in-loop .before .before .pre .1 .sums _ (in-loop .loop-test .taken))
 
 box-words-requires : tie.Need-box-words-requires Inv-loop μ-loop
 box-words-requires c κs =
-    let turn = c .before .before .before .before .before in
-    let start = turn .before .before in
-    let k = turn .before .loop .k in
-    let lt = turn .loop-test .taken in
-    (subst Word (sym (left-is (c .before .before))) (start .pre .1 .1 k lt), subst Word (sym (sum-is c)) (start .pre .1 .2 k lt .1))
-
-add-w : tie.Need-add-w Inv-loop μ-loop
-add-w c = omega arith
-
-mul-w : tie.Need-mul-w Inv-loop μ-loop
-mul-w c = omega arith
-
-slice-set-from-w : tie.Need-slice-set-from-w Inv-loop μ-loop
-slice-set-from-w c = omega arith
+    let in-loop = c .before .before .before .before .before in
+    let range = in-loop .before .before .pre .1 in
+    let lt = in-loop .loop-test .taken in
+    let t = turn in-loop in
+    (subst Word (sym (t .left)) (range .left _ lt), subst Word (sym (back-of addWord (c .add-words .ok) (c .add-words .ensures) (t .second) (t .right))) (range .sums _ lt .1))
 
 box-words-requires-2 : tie.Need-box-words-requires-2 Inv-loop μ-loop
 box-words-requires-2 c κs =
-    let turn = c .before .before .before .before .before .before in
-    let start = turn .before .before in
-    let k = turn .before .loop .k in
-    let lt = turn .loop-test .taken in
-    (subst Word (sym (first-is (c .before .before .before .before .before))) (start .pre .1 .0 k lt), subst Word (sym (left-is (c .before .before .before))) (start .pre .1 .1 k lt))
+    let in-loop = c .before .before .before .before .before .before in
+    let range = in-loop .before .before .pre .1 in
+    let lt = in-loop .loop-test .taken in
+    (subst Word (sym (turn in-loop .first)) (range .first _ lt), subst Word (sym (turn in-loop .left)) (range .left _ lt))
 
 add-words-requires-2 : tie.Need-add-words-requires-2 Inv-loop μ-loop
 add-words-requires-2 c κs =
-    let turn = c .before .before .before .before .before .before .before in
-    let start = turn .before .before in
-    subst₂ Added (sym (box-is c)) (sym (right-is (c .before .before .before))) (start .pre .1 .3 (turn .before .loop .k) (turn .loop-test .taken))
-
-add-t16 : tie.Need-add-t16 Inv-loop μ-loop
-add-t16 c = omega arith
-
-mul-t15 : tie.Need-mul-t15 Inv-loop μ-loop
-mul-t15 c = omega arith
+    let in-loop = c .before .before .before .before .before .before .before in
+    let t = turn in-loop in
+    subst₂ Added (sym (back-of boxWord (c .box-words2 .ok) (c .box-words2 .ensures) (t .first) (t .left))) (sym (t .right)) (in-loop .before .before .pre .1 .box-sums _ (in-loop .loop-test .taken))
 
 slice-set-from-w-2 : tie.Need-slice-set-from-w-2 Inv-loop μ-loop
 slice-set-from-w-2 c =
@@ -153,34 +52,15 @@ slice-set-from-w-2 c =
     let inv = at-loop .loop .inv in
     simp length-set (omega arith)
 
-add-k : tie.Need-add-k Inv-loop μ-loop
-add-k c = omega arith
-
-loop-less : tie.Need-loop-less Inv-loop μ-loop
-loop-less c = omega arith
-
 loop-again : tie.Need-loop-again Inv-loop μ-loop
 loop-again c =
-    let turn = c .before .before .before .before .before .before .before .before in
-    let at-loop = turn .before in
-    let a = at-loop .before .args in
-    let lt = turn .loop-test .taken in
-    let sum = c .before .before .before in (
-      omega arith,
-      store-both (pos 0) (a .w .now) (at-loop .loop .w) (a .m) (a .h) (at-loop .loop .k) _ _ _ _ lt (at-loop .loop .inv .1)
-          (back (c .before .before .box-words .ok) ∙ c .before .before .box-words .ensures ∙ ap₂ boxWord (left-is (sum .before .before)) (sum-is sum))
-          (back (c .add-words2 .ok) ∙ c .add-words2 .ensures ∙ ap₂ addWord (box-is (c .before)) (right-is (sum .before))),
-      simp length-set (at-loop .loop .inv .2),
-    )
-
-same-length : tie.Need-same-length Inv-loop μ-loop
-same-length c = c .before .loop .inv .2
-
-returns : tie.Need-returns Inv-loop μ-loop
-returns c =
-    let at-loop = c .before in
-    let a = at-loop .before .args in
-    subst (λ (n : ℕ). Halves (a .w .now) (a .m) (a .x) (a .l) (a .h) n (at-loop .loop .w)) (le-antisymm (at-loop .loop .inv .0) (c .loop-test .left)) (at-loop .loop .inv .1)
+    let low = c .before .before in
+    let sum = low .before .add-words in
+    let in-loop = low .before .before .before .before .before .before in
+    let t = turn in-loop in
+    one-of-both (in-loop .before .loop .inv) (in-loop .loop-test .taken)
+    (back-of boxWord (low .box-words .ok) (low .box-words .ensures) (t .left) (back-of addWord (sum .ok) (sum .ensures) (t .second) (t .right)))
+    (back-of addWord (c .add-words2 .ok) (c .add-words2 .ensures) (back-of boxWord (c .before .box-words2 .ok) (c .before .box-words2 .ensures) (t .first) (t .left)) (t .right))
 
 pub node-message-spec : {M : Type 1} → statement M
 node-message-spec =
@@ -188,34 +68,20 @@ node-message-spec =
     (tie.spec
     Inv-loop
     μ-loop
-    add-y
-    add-r
-    add-g
-    loop-holds
-    add-first
-    mul-first
-    slice-copy-out-first
-    add-second
-    mul-second
-    slice-copy-out-second
-    add-left
-    mul-left
-    slice-copy-out-left
-    add-right
-    mul-right
-    slice-copy-out-right
+    (λ c. omega arith) (λ c. omega arith) (λ c. omega arith)  -- y, r, g
+    (λ c. none-of-both)
+    (λ c. omega arith) (λ c. omega arith) (λ c. omega arith)  -- first
+    (λ c. omega arith) (λ c. omega arith) (λ c. omega arith)  -- second
+    (λ c. omega arith) (λ c. omega arith) (λ c. omega arith)  -- left
+    (λ c. omega arith) (λ c. omega arith) (λ c. omega arith)  -- right
     add-words-requires
     box-words-requires
-    add-w
-    mul-w
-    slice-set-from-w
+    (λ c. omega arith) (λ c. omega arith) (λ c. omega arith)  -- w[m + k]
     box-words-requires-2
     add-words-requires-2
-    add-t16
-    mul-t15
-    slice-set-from-w-2
-    add-k
-    loop-less
+    (λ c. omega arith) (λ c. omega arith) slice-set-from-w-2  -- w[g + k]
+    (λ c. omega arith)  -- k + 1
+    (λ c. omega arith)  -- less is left
     loop-again
-    same-length
-    returns)
+    (λ c. c .before .loop .inv .long)
+    (λ c. all-of-both (c .before .loop .inv) (c .loop-test .left)))

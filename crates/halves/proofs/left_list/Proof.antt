@@ -4,13 +4,11 @@ use mathlib.Core.Path.{sym, ap, _∙_}
 use mathlib.Core.Logic.{inr}
 use mathlib.Core.Bool.{Bool, cond}
 use native.Mathlib.Omega.{arith}
-use Rattle.words.specs.Words.{write, boxAt, boxPlus}
+use Rattle.words.specs.Words.{write}
+use Rattle.halves.specs.Halves.{boxAt, boxPlus}
 use borrow.Author.Needs.{needs}
 use Rattle.halves.proofs.left_list.Statement.{statement}
 use Rattle.halves.proofs.left_list.Tie as tie
-
-add-y : tie.Need-add-y
-add-y c = search needs
 
 box-at-requires : tie.Need-box-at-requires
 box-at-requires c κs =
@@ -22,16 +20,10 @@ box-plus-requires c κs =
     let start = c .before .before in
     ((omega arith, omega arith, omega arith, omega arith), ((inr (omega arith), inr (omega arith), inr (omega arith)), (start .pre .1 .0, start .pre .1 .2 (c .before .if1 .left))))
 
-same-length : tie.Need-same-length
-same-length c = search needs
-
 returns : tie.Need-returns
 returns c =
     let a = c .before .before .before .before .args in
     c .before .box-at .ensures ∙ sym (ap (λ (f : Bool). write (a .w .now) (a .c) (a .h) (cond f (boxAt (a .w .now) (a .x) (a .x + a .h)) (boxPlus (a .w .now) (a .x) (a .x + a .h) (a .r)))) (c .before .before .before .if1 .taken))
-
-same-length-2 : tie.Need-same-length-2
-same-length-2 c = search needs
 
 returns-2 : tie.Need-returns-2
 returns-2 c =
@@ -40,4 +32,4 @@ returns-2 c =
 
 pub left-list-spec : {M : Type 1} → statement M
 left-list-spec =
-    tie.close (tie.spec add-y box-at-requires box-plus-requires same-length returns same-length-2 returns-2)
+    tie.close (tie.spec (λ c. search needs) box-at-requires box-plus-requires (λ c. search needs) returns (λ c. search needs) returns-2)

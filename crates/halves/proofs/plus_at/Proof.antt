@@ -1,98 +1,36 @@
 -- `halves::plus_at` meets its contract. The loop's invariant: the first k sums are stored. Assumes nothing.
-use mathlib.Core.Path.{_≡_, refl, sym, ap, ap₂, _∙_, subst₂}
-use lib.IntN.{pos}
-use Prim.Native.Nat.{ℕ, _+_, _-_, _≤_}
+use Prim.Native.Nat.{_-_}
 use native.Mathlib.Omega.{arith}
-use native.Mathlib.Nat.{le-antisymm}
-use lib.ListN.{length, length-set}
-use mir.Val.{toZ, ofZ}
-use mir.Syntax.{w32}
-use Rattle.words.specs.Words.{word, write, Finite, addWord, plusAt}
-use Rattle.words.proofs.Signed.{back}
-use Rattle.words.proofs.Store.{store-none, store-more, source}
+use Rattle.words.specs.Words.{addWord}
+use Rattle.words.proofs.Signed.{back-of}
+use Rattle.words.proofs.Loops.{Stored, none-stored, one-stored, all-stored}
+use Rattle.halves.specs.Halves.{plusAt}
+use Rattle.halves.proofs.Steps.{source}
 use Rattle.halves.proofs.plus_at.Statement.{statement}
 use Rattle.halves.proofs.plus_at.Tie as tie
 
 abbrev Inv-loop : tie.InvT-loop
-Inv-loop w₀ d a b h k₀ w k = (k ≤ h) × (w ≡ write w₀ d k (plusAt w₀ a b)) × (length w ≡ length w₀)
+Inv-loop w₀ d a b h k₀ w k = Stored w₀ d h (plusAt w₀ a b) k w
 
 abbrev μ-loop : tie.MeasureT-loop
 μ-loop w₀ d a b h k₀ w k = h - k
 
--- ---- what a turn reads, by the words at entry
-first-is : (c : tie.After-add-finite-arg Inv-loop μ-loop) → let at-loop = c .before .before in let a = at-loop .before .args in
-    toZ w32 (ofZ w32 (word (at-loop .loop .w) (a .a + at-loop .loop .k))) ≡ word (a .w .now) (a .a + at-loop .loop .k)
-first-is c =
-    let at-loop = c .before .before in
-    let start = at-loop .before in
-    back (c .add-finite-arg .given) ∙ source (pos 0) (start .args .w .now) (at-loop .loop .w) _ _ _ _ (start .args .a) (at-loop .loop .inv .1) (start .pre .1 .0 .0) (c .before .loop-test .taken)
-
-second-is : (c : tie.After-add-finite-arg2 Inv-loop μ-loop) → let at-loop = c .before .before .before in let a = at-loop .before .args in
-    toZ w32 (ofZ w32 (word (at-loop .loop .w) (a .b + at-loop .loop .k))) ≡ word (a .w .now) (a .b + at-loop .loop .k)
-second-is c =
-    let at-loop = c .before .before .before in
-    let start = at-loop .before in
-    back (c .add-finite-arg2 .given) ∙ source (pos 0) (start .args .w .now) (at-loop .loop .w) _ _ _ _ (start .args .b) (at-loop .loop .inv .1) (start .pre .1 .0 .1) (c .before .before .loop-test .taken)
-
-loop-holds : tie.Need-loop-holds Inv-loop μ-loop
-loop-holds c = (omega arith, store-none (pos 0) _ _ _, refl)
-
-add-add-finite : tie.Need-add-add-finite Inv-loop μ-loop
-add-add-finite c = omega arith
-
-mul-add-finite : tie.Need-mul-add-finite Inv-loop μ-loop
-mul-add-finite c = omega arith
-
-slice-copy-out-add-finite : tie.Need-slice-copy-out-add-finite Inv-loop μ-loop
-slice-copy-out-add-finite c = omega arith
-
-add-add-finite-2 : tie.Need-add-add-finite-2 Inv-loop μ-loop
-add-add-finite-2 c = omega arith
-
-mul-add-finite-2 : tie.Need-mul-add-finite-2 Inv-loop μ-loop
-mul-add-finite-2 c = omega arith
-
-slice-copy-out-add-finite-2 : tie.Need-slice-copy-out-add-finite-2 Inv-loop μ-loop
-slice-copy-out-add-finite-2 c = omega arith
-
 add-finite-requires : tie.Need-add-finite-requires Inv-loop μ-loop
 add-finite-requires c κs =
     let turn = c .before .before in
-    subst₂ Finite (sym (first-is (c .before))) (sym (second-is c)) (turn .before .before .pre .1 .1 (turn .before .loop .k) (turn .loop-test .taken))
-
-add-t17 : tie.Need-add-t17 Inv-loop μ-loop
-add-t17 c = omega arith
-
-mul-t18 : tie.Need-mul-t18 Inv-loop μ-loop
-mul-t18 c = omega arith
-
-slice-set-from-w : tie.Need-slice-set-from-w Inv-loop μ-loop
-slice-set-from-w c = omega arith
-
-add-k : tie.Need-add-k Inv-loop μ-loop
-add-k c = omega arith
-
-loop-less : tie.Need-loop-less Inv-loop μ-loop
-loop-less c = omega arith
+    let pre = turn .before .before .pre .1 in
+    let lt = turn .loop-test .taken in
+    let read = source (turn .before .loop .inv) lt in
+    rw (read _ (pre .0 .0) (c .before .add-finite-arg .given), read _ (pre .0 .1) (c .add-finite-arg2 .given)) (pre .1 _ lt)
 
 loop-again : tie.Need-loop-again Inv-loop μ-loop
 loop-again c =
-    let at-loop = c .before .before .before .before in
-    let a = at-loop .before .args in (
-      omega arith,
-      store-more (pos 0) (a .w .now) (at-loop .loop .w) (a .d) (at-loop .loop .k) _ _ (at-loop .loop .inv .1)
-          (back (c .add-finite .ok) ∙ c .add-finite .ensures ∙ ap₂ addWord (first-is (c .before .before)) (second-is (c .before))),
-      simp length-set (at-loop .loop .inv .2),
-    )
-
-same-length : tie.Need-same-length Inv-loop μ-loop
-same-length c = c .before .loop .inv .2
-
-returns : tie.Need-returns Inv-loop μ-loop
-returns c =
-    let at-loop = c .before in
-    let a = at-loop .before .args in
-    at-loop .loop .inv .1 ∙ ap (λ (n : ℕ). write (a .w .now) (a .d) n (plusAt (a .w .now) (a .a) (a .b))) (le-antisymm (at-loop .loop .inv .0) (c .loop-test .left))
+    let turn = c .before .before .before in
+    let apart = turn .before .before .pre .1 .0 in
+    let lt = turn .loop-test .taken in
+    let read = source (turn .before .loop .inv) lt in
+    one-stored (turn .before .loop .inv) lt
+    (back-of addWord (c .add-finite .ok) (c .add-finite .ensures) (read _ (apart .0) (c .before .before .add-finite-arg .given)) (read _ (apart .1) (c .before .add-finite-arg2 .given)))
 
 pub plus-at-spec : {M : Type 1} → statement M
 plus-at-spec =
@@ -100,19 +38,13 @@ plus-at-spec =
     (tie.spec
     Inv-loop
     μ-loop
-    loop-holds
-    add-add-finite
-    mul-add-finite
-    slice-copy-out-add-finite
-    add-add-finite-2
-    mul-add-finite-2
-    slice-copy-out-add-finite-2
+    (λ c. none-stored)
+    (λ c. omega arith) (λ c. omega arith) (λ c. omega arith)  -- w[a + k]
+    (λ c. omega arith) (λ c. omega arith) (λ c. omega arith)  -- w[b + k]
     add-finite-requires
-    add-t17
-    mul-t18
-    slice-set-from-w
-    add-k
-    loop-less
+    (λ c. omega arith) (λ c. omega arith) (λ c. omega arith)  -- w[d + k]
+    (λ c. omega arith)  -- k + 1
+    (λ c. omega arith)  -- less is left
     loop-again
-    same-length
-    returns)
+    (λ c. c .before .loop .inv .long)
+    (λ c. all-stored (c .before .loop .inv) (c .loop-test .left)))

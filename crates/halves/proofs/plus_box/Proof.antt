@@ -7,24 +7,6 @@ use borrow.Author.Needs.{needs}
 use Rattle.halves.proofs.plus_box.Statement.{statement}
 use Rattle.halves.proofs.plus_box.Tie as tie
 
-box-at-requires : tie.Need-box-at-requires
-box-at-requires c κs = search needs
-
-sub-far : tie.Need-sub-far
-sub-far c = omega arith
-
-mul-add-front : tie.Need-mul-add-front
-mul-add-front c = omega arith
-
-sub-add-front : tie.Need-sub-add-front
-sub-add-front c = omega arith
-
-part-add-front-start : tie.Need-part-add-front-start
-part-add-front-start c = omega arith
-
-part-add-front-end : tie.Need-part-add-front-end
-part-add-front-end c = omega arith
-
 add-front-requires : tie.Need-add-front-requires
 add-front-requires c κs =
     let called = c .before .before in
@@ -32,9 +14,6 @@ add-front-requires c κs =
     let a = start .args in
     let len = called .box-at .kept .0 in
     (omega arith, λ k lt. subst₂ Finite (sym (front-own (a .w .now) (called .box-at .last .0) (a .d) (a .a) (a .b) (a .c) (a .h) (start .pre .0 .0) (start .pre .0 .3) (called .box-at .ensures) k lt)) (sym (front-other (a .w .now) (called .box-at .last .0) (a .d) (a .a) (a .b) (a .c) (a .h) (start .pre .0 .0) (start .pre .0 .3) (called .box-at .ensures) k lt)) (start .pre .1 .1 .2 k lt))
-
-same-length : tie.Need-same-length
-same-length c = omega arith
 
 returns : tie.Need-returns
 returns c =
@@ -48,12 +27,9 @@ pub plus-box-spec : {M : Type 1} → statement M
 plus-box-spec =
     tie.close
     (tie.spec
-    box-at-requires
-    sub-far
-    mul-add-front
-    sub-add-front
-    part-add-front-start
-    part-add-front-end
+    (λ c κs. search needs)
+    (λ c. omega arith)  -- d - c
+    (λ c. omega arith) (λ c. omega arith) (λ c. omega arith) (λ c. omega arith)  -- w[c..]
     add-front-requires
-    same-length
+    (λ c. omega arith)
     returns)

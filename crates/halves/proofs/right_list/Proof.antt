@@ -5,15 +5,13 @@ use mathlib.Core.Logic.{inr}
 use lib.IntN.{ℤ, pos}
 use Prim.Native.Nat.{_+_}
 use native.Mathlib.Omega.{arith}
-use Rattle.words.specs.Words.{Finite, word, plusAt, plusBox}
-use Rattle.words.proofs.Laws.{box-certain, plus-box-certain}
+use Rattle.words.specs.Words.{Finite, word}
+use Rattle.halves.specs.Halves.{plusAt, plusBox}
+use Rattle.halves.proofs.Laws.{box-certain, plus-box-certain}
 use Rattle.words.proofs.Store.{write-ext}
 use borrow.Author.Needs.{needs}
 use Rattle.halves.proofs.right_list.Statement.{statement}
 use Rattle.halves.proofs.right_list.Tie as tie
-
-add-y : tie.Need-add-y
-add-y c = search needs
 
 plus-at-requires : tie.Need-plus-at-requires
 plus-at-requires c κs =
@@ -29,9 +27,6 @@ plus-box-requires c κs =
     let start = c .before .before in
     ((omega arith, omega arith, omega arith, omega arith), ((inr (omega arith), inr (omega arith)), start .pre .1 .0))
 
-same-length : tie.Need-same-length
-same-length c = search needs
-
 returns : tie.Need-returns
 returns c =
     let start = c .before .before .before .before in
@@ -41,12 +36,9 @@ returns c =
     ∙ write-ext (pos 0) (a .w .now) (a .c) (a .h) (plusAt (a .w .now) (a .x) (a .x + a .h)) (plusBox (a .w .now) (a .x) (a .l) (a .x + a .h))
     (λ k lt. sym (plus-box-certain (a .w .now) (a .x) (a .l) (a .x + a .h) k (certain k lt) (start .pre .1 .0 .0 k lt)))
 
-same-length-2 : tie.Need-same-length-2
-same-length-2 c = search needs
-
 returns-2 : tie.Need-returns-2
 returns-2 c = c .before .plus-box .ensures
 
 pub right-list-spec : {M : Type 1} → statement M
 right-list-spec =
-    tie.close (tie.spec add-y plus-at-requires plus-box-requires same-length returns same-length-2 returns-2)
+    tie.close (tie.spec (λ c. search needs) plus-at-requires plus-box-requires (λ c. search needs) returns (λ c. search needs) returns-2)

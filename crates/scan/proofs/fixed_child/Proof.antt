@@ -2,7 +2,7 @@
 use mathlib.Core.Path.{_≡_, sym, ap, _∙_}
 use mathlib.Core.Bool.{Bool, cond}
 use mathlib.Core.List.{[]}
-use lib.IntN.{ℤ, pos}
+use lib.IntN.{pos}
 use Rattle.model.specs.Soft.{mark}
 use Rattle.words.proofs.Store.{write-ext}
 use Rattle.messages.proofs.Messages.{zero-value, rate-one-value}
@@ -14,22 +14,10 @@ use Rattle.scan.proofs.fixed_child.Tie as tie
 picked : {b b′ : Bool} → b ≡ b′ → cond b′ (pos mark) (pos 0) ≡ cond b (pos mark) (pos 0)
 picked e = sym (ap (λ (b : Bool). cond b (pos mark) (pos 0)) e)
 
-rate-zero-message-requires : tie.Need-rate-zero-message-requires
-rate-zero-message-requires c κs = search needs
-
-rate-one-message-requires : tie.Need-rate-one-message-requires
-rate-one-message-requires c κs = search needs
-
-same-length : tie.Need-same-length
-same-length c = search needs
-
 returns : tie.Need-returns
 returns c =
     let a = c .before .before .before .before .args in
     c .before .rate-zero-message .ensures [] ∙ write-ext (pos 0) (a .w .now) (a .m) (a .s) _ _ (λ k lt. sym (zero-value (a .s) [] k lt) ∙ picked (c .before .before .before .if1 .taken))
-
-same-length-2 : tie.Need-same-length-2
-same-length-2 c = search needs
 
 returns-2 : tie.Need-returns-2
 returns-2 c =
@@ -37,4 +25,4 @@ returns-2 c =
     c .before .rate-one-message .ensures [] ∙ write-ext (pos 0) (a .w .now) (a .m) (a .s) _ _ (λ k lt. sym (rate-one-value (a .s) [] k lt) ∙ picked (c .before .before .before .if1 .left))
 
 pub fixed-child-spec : {M : Type 1} → statement M
-fixed-child-spec = tie.close (tie.spec rate-zero-message-requires rate-one-message-requires same-length returns same-length-2 returns-2)
+fixed-child-spec = tie.close (tie.spec (λ c κs. search needs) (λ c κs. search needs) (λ c. search needs) returns (λ c. search needs) returns-2)

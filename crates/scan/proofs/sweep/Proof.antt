@@ -5,24 +5,11 @@ use borrow.Author.Needs.{needs}
 use Rattle.scan.proofs.sweep.Statement.{statement}
 use Rattle.scan.proofs.sweep.Tie as tie
 
-add-x : tie.Need-add-x
-add-x c =
-    let few = stages (c .before .before .pre) in record { fits = omega arith }
-
-mul-x : tie.Need-mul-x
-mul-x c = search needs
-
-visit-requires : tie.Need-visit-requires
-visit-requires c κs =
-    root-room (c .before .before .before .pre)
-
-same-length : tie.Need-same-length
-same-length c =
-    c .before .visit .kept .0
-
-returns : tie.Need-returns
-returns c =
-    swept-one (c .before .before .before .before .before .pre) _ (c .before .visit .ensures)
-
 pub sweep-spec : {M : Type 1} → statement M
-sweep-spec = tie.close (tie.spec add-x mul-x visit-requires same-length returns)
+sweep-spec =
+    tie.close
+    (tie.spec
+    (λ c. let few = stages (c .before .before .pre) in record { fits = omega arith }) (λ c. search needs)  -- list
+    (λ c κs. root-room (c .before .before .before .pre))
+    (λ c. c .before .visit .kept .0)
+    (λ c. swept-one (c .before .before .before .before .before .pre) _ (c .before .visit .ensures)))

@@ -15,9 +15,6 @@ use borrow.Author.Needs.{needs}
 use Rattle.words.proofs.add_words.Statement.{statement}
 use Rattle.words.proofs.add_words.Tie as tie
 
-pick-word-requires : tie.Need-pick-word-requires
-pick-word-requires c κs = search needs
-
 sum-is : (c : tie.After-pick-word) → let a = c .before .args in toZ w32 (ofZ w32 (a .b)) +ℤ toZ w32 (ofZ w32 (c .pick-word .result)) ≡ addWord (a .a) (a .b)
 sum-is c =
     let s = c .before in
@@ -35,4 +32,4 @@ returns c =
     toZ-ofZ (add-result c) ∙ sum-is c
 
 pub add-words-spec : {M : Type 1} → statement M
-add-words-spec = tie.close (tie.spec pick-word-requires add-result returns)
+add-words-spec = tie.close (tie.spec (λ c κs. search needs) add-result returns)

@@ -14,12 +14,6 @@ use borrow.Author.Needs.{needs}
 use Rattle.words.proofs.box_words.Statement.{statement}
 use Rattle.words.proofs.box_words.Tie as tie
 
-min-word-requires : tie.Need-min-word-requires
-min-word-requires c κs = search needs
-
-max-word-requires : tie.Need-max-word-requires
-max-word-requires c κs = search needs
-
 low-is : (c : tie.After-min-word) → let a = c .before .args in toZ w32 (ofZ w32 (c .min-word .result)) ≡ cond (ltZ (a .a) (a .b)) (a .a) (a .b)
 low-is c = back (c .min-word .ok) ∙ c .min-word .ensures ∙ ap₂ (λ (x y : ℤ). cond (ltZ x y) x y) (toZ-ofZ (c .before .fits .a)) (toZ-ofZ (c .before .fits .b))
 
@@ -31,9 +25,6 @@ sub-max-word c =
     let s = c .before .before in
     let a = s .args in
     neg-fits (toZ w32 (ofZ w32 (c .max-word .result))) (subst Word (sym (high-is c)) (cond-both Word (ltZ (a .a) (a .b)) (s .pre .1) (s .pre .0)))
-
-max-word-requires-2 : tie.Need-max-word-requires-2
-max-word-requires-2 c κs = search needs
 
 returns : tie.Need-returns
 returns c =
@@ -47,4 +38,4 @@ returns c =
 pub box-words-spec : {M : Type 1} → statement M
 box-words-spec =
     tie.close
-    (tie.spec min-word-requires max-word-requires sub-max-word max-word-requires-2 returns)
+    (tie.spec (λ c κs. search needs) (λ c κs. search needs) sub-max-word (λ c κs. search needs) returns)

@@ -11,9 +11,6 @@ use borrow.Author.Needs.{needs}
 use Rattle.words.proofs.size_word.Statement.{statement}
 use Rattle.words.proofs.size_word.Tie as tie
 
-abs-word-requires : tie.Need-abs-word-requires
-abs-word-requires c κs = search needs
-
 abs-is : (c : tie.After-abs-word) → toZ w32 (ofZ w32 (c .abs-word .result)) ≡ pos (natAbs (c .before .args .a))
 abs-is c = back (c .abs-word .ok) ∙ c .abs-word .ensures ∙ ap (λ (z : ℤ). pos (natAbs z)) (toZ-ofZ (c .before .fits .a))
 
@@ -24,4 +21,4 @@ returns : tie.Need-returns
 returns c = ap natAbs (abs-is c)
 
 pub size-word-spec : {M : Type 1} → statement M
-size-word-spec = tie.close (tie.spec abs-word-requires cast-result returns)
+size-word-spec = tie.close (tie.spec (λ c κs. search needs) cast-result returns)

@@ -1,0 +1,69 @@
+-- What is stored where the halves of a node's words are combined, and what that requires of them. Assumes nothing: these are definitions.
+use mathlib.Core.Logic.{_⊎_}
+use mathlib.Core.List.{List}
+use Prim.Native.Nat.{ℕ, _+_, _≤_, _<_}
+use lib.IntN.{ℤ}
+use Rattle.words.specs.Words.{boxWord, addWord, word, write, Words, Added, Finite, Holds}
+
+-- the n words from a and the n words from b share no word
+abbrev pub Apart : ℕ → ℕ → ℕ → Type 0
+Apart n a b = (a + n ≤ b) ⊎ (b + n ≤ a)
+
+-- ---- what is stored
+abbrev pub boxAt : List ℤ → ℕ → ℕ → ℕ → ℤ
+boxAt w a b k = boxWord (word w (a + k)) (word w (b + k))
+
+abbrev pub plusAt : List ℤ → ℕ → ℕ → ℕ → ℤ
+plusAt w a b k = addWord (word w (a + k)) (word w (b + k))
+
+abbrev pub boxPlus : List ℤ → ℕ → ℕ → ℕ → ℕ → ℤ
+boxPlus w a b c k = boxWord (word w (a + k)) (addWord (word w (b + k)) (word w (c + k)))
+
+abbrev pub plusBox : List ℤ → ℕ → ℕ → ℕ → ℕ → ℤ
+plusBox w a b c k = addWord (boxWord (word w (a + k)) (word w (b + k))) (word w (c + k))
+
+abbrev pub plusFront : List ℤ → ℕ → ℕ → ℤ
+plusFront w d k = addWord (word w (d + k)) (word w k)
+
+-- ---- what the sums require
+abbrev pub FiniteSums : List ℤ → ℕ → ℕ → ℕ → Type 0
+FiniteSums w a b h = (k : ℕ) → k < h → Finite (word w (a + k)) (word w (b + k))
+
+abbrev pub Sums : List ℤ → ℕ → ℕ → ℕ → Type 0
+Sums w b c h = (k : ℕ) → k < h → Added (word w (b + k)) (word w (c + k))
+
+abbrev pub BoxSums : List ℤ → ℕ → ℕ → ℕ → ℕ → Type 0
+BoxSums w a b c h = (k : ℕ) → k < h → Added (boxWord (word w (a + k)) (word w (b + k))) (word w (c + k))
+
+abbrev pub FiniteBoxSums : List ℤ → ℕ → ℕ → ℕ → ℕ → Type 0
+FiniteBoxSums w a b c h = (k : ℕ) → k < h → Finite (boxWord (word w (a + k)) (word w (b + k))) (word w (c + k))
+
+-- ---- the message of an uncut node of size 2h, at m: its incoming list L is at x, its left child's message l at l and its right child's r at l + h
+-- these follow each other, and the list ends before `end`
+pub record Places (m x l h end : ℕ) : Type 0 where
+  pub children : l + (h + h) ≤ m
+  pub message : m + (h + h) ≤ x
+  pub list : x + (h + h) ≤ end
+
+-- what is read, and each sum on the way, is a word
+pub record InRange (w : List ℤ) (x l h : ℕ) : Type 0 where
+  pub first : Words w x h
+  pub left : Words w l h
+  pub right : Words w (l + h) h
+  pub sums : Sums w (x + h) (l + h) h
+  pub box-sums : BoxSums w x l (l + h) h
+
+-- the two halves of the message: box(l[k], L[k+h] + r[k]) and box(L[k], l[k]) + r[k], as in the model's `toNode`
+abbrev pub lowHalf : List ℤ → (x l h : ℕ) → ℕ → ℤ
+lowHalf w x l h = boxPlus w l (x + h) (l + h)
+
+abbrev pub highHalf : List ℤ → (x l h : ℕ) → ℕ → ℤ
+highHalf w x l h = plusBox w x l (l + h)
+
+-- w with the message stored
+abbrev pub nodeWords : List ℤ → (m x l h : ℕ) → List ℤ
+nodeWords w m x l h = write (write w m h (lowHalf w x l h)) (m + h) h (highHalf w x l h)
+
+-- the right child's incoming list box(L[k], l[k]) + L[k+h] is at c, and each sum in it was of finite words
+abbrev pub RightListAt : List ℤ → (x l c h : ℕ) → Type 0
+RightListAt w x l c h = FiniteBoxSums w x l (x + h) h × Holds w c h (plusBox w x l (x + h))
