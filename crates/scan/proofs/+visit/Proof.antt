@@ -19,7 +19,8 @@ use Rattle.model.specs.Soft.{mark}
 use Rattle.words.specs.Words.{write}
 use Rattle.scan.specs.Space.{part, Visited}
 use Rattle.kinds.proofs.Runs.{kind-part}
-use Rattle.messages.specs.Cut.{cutWords}
+use Rattle.messages.specs.Cut.{cutWords, Sized, leastOf}
+use Rattle.messages.proofs.Sizes.{kind-sized}
 use Rattle.scan.proofs.Nodes.{Geo, geo, inside}
 use Rattle.model.proofs.Paths.{wellCut-cut}
 use Rattle.scan.proofs.Runs.{Run, LeftDone, RightDone, no-list, a-list, run}
@@ -142,7 +143,10 @@ module _ (t : ℕ) where
       let a = start .args in
       let room = start .pre .1 in (
         (omega arith, omega arith),
-        λ q. incoming room (ap (λ (x : Bool). x && isRate01 (kindOf (2 ^ a .t) (part (a .mask .now) (a .b) (a .t)))) (is-cut (c .before .before .before)) ∙ sym (ap isRate01 (c .before .cut-kind .ensures ∙ kind-part (a .mask .now) (a .b) (a .s) (room .masked) ∙ kind-stage (a .mask .now) (a .b) (a .s) (a .t) (room .size))) ∙ q),
+        (
+          subst (λ (o : Option Kind). Sized (leastOf o) (a .s)) (sym (c .before .cut-kind .ensures ∙ kind-part (a .mask .now) (a .b) (a .s) (room .masked))) (kind-sized (a .s) (a .t) _ (room .size)),
+          λ q. incoming room (ap (λ (x : Bool). x && isRate01 (kindOf (2 ^ a .t) (part (a .mask .now) (a .b) (a .t)))) (is-cut (c .before .before .before)) ∙ sym (ap isRate01 (c .before .cut-kind .ensures ∙ kind-part (a .mask .now) (a .b) (a .s) (room .masked) ∙ kind-stage (a .mask .now) (a .b) (a .s) (a .t) (room .size))) ∙ q),
+        ),
       )
 
   visit-same-length : visit-lts.Need-same-length (around t) (visit-at t) visit.Post

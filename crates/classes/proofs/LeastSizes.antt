@@ -1,41 +1,18 @@
--- Laws of the loops over a class of places: a turn, and what was gathered so far with the rest. Assumes nothing.
-use mathlib.Core.Path.{_≡_, refl, sym, ap, _∙_}
+-- The two least sizes and the parity of the signs: a turn of the loop that gathers them, and what was gathered so far with the rest. Assumes nothing.
+use mathlib.Core.Path.{_≡_, sym, ap, _∙_, subst}
 use mathlib.Core.Bool.{Bool, false}
 use mathlib.Core.Logic.{_⊎_, inl, inr}
 use mathlib.Core.List.{List, [], _∷_}
-use Prim.Native.Nat.{ℕ, zero, suc, _+_, _≤_, _<_, min, max}
+use Prim.Native.Nat.{ℕ, _≤_, min, max}
 use native.Mathlib.Nat.{min-eq-left, min-eq-right, max-eq-left, max-eq-right}
 use native.Mathlib.Omega.{arith, min-cases}
-use lib.IntN.{ℤ, pos, natAbs, _+ℤ_, +ℤ-assoc, +ℤ-idr}
-use lib.ListN.{length, getD, drop, drop-of-length-le}
-use lib.Seq.{drop-cons, drop-drop}
+use lib.IntN.{ℤ, natAbs}
 use Rattle.model.proofs.Algebra.{differ-comm, differ-assoc}
-use Rattle.model.proofs.Bounds.{abs-plus}
 use Rattle.model.specs.Soft.{negative, differ, mark}
-use Rattle.words.specs.Words.{xor, word}
+use Rattle.words.specs.Words.{xor}
 use Rattle.words.proofs.Laws.{differ-xor}
-use Rattle.classes.specs.Sums.{strided, sumZ, sizes, least, next, parity}
-
--- ---- a class of places
-
-pub strided-skip : {A : Type 0} (d c : ℕ) (l : List A) → strided d c l ≡ strided d 0 (drop c l)
-unfolding strided
-strided-skip d zero l = refl
-strided-skip d (suc c) [] = refl
-strided-skip d (suc c) (x ∷ xs) = strided-skip d c xs
-
--- a turn of a loop that goes by d + 1
-pub strided-step : {A : Type 0} (d i : ℕ) (l : List A) (z : A) → i < length l → strided d 0 (drop i l) ≡ getD l i z ∷ strided d 0 (drop (i + (d + 1)) l)
-unfolding strided
-strided-step {A} d i l z h =
-    let e : suc i + d ≡ i + (d + 1) = omega arith in
-    ap (strided d 0) (drop-cons l i z h)
-    ∙ ap (λ (t : List A). getD l i z ∷ t) (strided-skip d d (drop (suc i) l) ∙ ap (strided d 0) (drop-drop d (suc i) l ∙ ap (λ (n : ℕ). drop n l) e))
-
-pub strided-all : {A : Type 0} (l : List A) → strided 0 0 l ≡ l
-unfolding strided
-strided-all [] = refl
-strided-all {A} (x ∷ xs) = ap (λ (t : List A). x ∷ t) (strided-all xs)
+use Rattle.classes.specs.declared.Gathered.{Gathered}
+use Rattle.classes.specs.LeastSizes.{least, next, parity, gatherOf}
 
 -- ---- signs and sizes
 
@@ -93,32 +70,6 @@ next-turn a b x l =
     ∙ ap (min (min b (next l))) (median (natAbs x) a (least l))
     ∙ sym (min-second b (next l) (max (natAbs x) (least l)) (max a (min (natAbs x) (least l))))
 
--- ---- a turn of a loop over a class, and its end
-module _ (d i : ℕ) (l : List ℤ) (h : i < length l) where
-  pub sizes-step : sizes (strided d 0 (drop i l)) ≡ natAbs (word l i) + sizes (strided d 0 (drop (i + (d + 1)) l))
-  unfolding sizes
-  sizes-step = ap sizes (strided-step d i l (pos 0) h)
-
-  pub sum-step : sumZ (strided d 0 (drop i l)) ≡ word l i +ℤ sumZ (strided d 0 (drop (i + (d + 1)) l))
-  unfolding sumZ
-  sum-step = ap sumZ (strided-step d i l (pos 0) h)
-
-pub strided-end : {A : Type 0} (d i : ℕ) (l : List A) → length l ≤ i → strided d 0 (drop i l) ≡ []
-unfolding strided
-strided-end d i l h = ap (strided d 0) (drop-of-length-le l h)
-
--- the sum so far, t, and the rest
-pub sum-turn : (d i : ℕ) (l : List ℤ) (t w : ℤ) → i < length l → t +ℤ sumZ (strided d 0 (drop i l)) ≡ w → (t +ℤ word l i) +ℤ sumZ (strided d 0 (drop (i + (d + 1)) l)) ≡ w
-sum-turn d i l t w h e =
-    +ℤ-assoc t (word l i) (sumZ (strided d 0 (drop (i + (d + 1)) l))) ∙ ap (λ (z : ℤ). t +ℤ z) (sym (sum-step d i l h)) ∙ e
-
-pub sizes-turn : (d i : ℕ) (l : List ℤ) (t : ℤ) (w : ℕ) → i < length l → natAbs t + sizes (strided d 0 (drop i l)) ≤ w → natAbs (t +ℤ word l i) + sizes (strided d 0 (drop (i + (d + 1)) l)) ≤ w
-sizes-turn d i l t w h e = omega (arith, sizes-step d i l h, abs-plus t (word l i))
-
-pub sum-end : (d i : ℕ) (l : List ℤ) (t w : ℤ) → length l ≤ i → t +ℤ sumZ (strided d 0 (drop i l)) ≡ w → t ≡ w
-unfolding sumZ
-sum-end d i l t w h e = sym (+ℤ-idr t) ∙ sym (ap (λ (r : List ℤ). t +ℤ sumZ r) (strided-end d i l h)) ∙ e
-
 -- ---- gathering: what is had so far, with the rest, gives the whole
 abbrev pub Gath : ℕ → ℕ → Bool → List ℤ → List ℤ → Type 0
 Gath m1 m2 neg rest whole =
@@ -143,11 +94,12 @@ gath-turn m1 m2 neg x rest whole g =
     let b = g .1 in
     (omega (arith, a), omega (arith, b), min-turn (natAbs x) m1 (least rest) ∙ g .2, next-turn m1 m2 x rest ∙ g .3, xor-turn (negative x) neg (parity rest) ∙ g .4)
 
-pub gath-end : (m1 m2 : ℕ) (neg : Bool) (whole : List ℤ) → Gath m1 m2 neg [] whole → (m1 ≡ least whole) × (m2 ≡ next whole) × (neg ≡ parity whole)
+pub gath-end : (m1 m2 : ℕ) (neg : Bool) (rest whole : List ℤ) → rest ≡ [] → Gath m1 m2 neg rest whole → _≡_ {A = Gathered} (record { least = m1; next = m2; neg = neg }) (gatherOf whole)
 unfolding least next parity
-gath-end m1 m2 neg whole g =
+gath-end m1 m2 neg rest whole e h =
+    let g : Gath m1 m2 neg [] whole = subst (λ (r : List ℤ). Gath m1 m2 neg r whole) e h in
     let a : m1 ≤ mark = g .0 in
     let b : m2 ≤ mark = g .1 in
     let p : min m1 mark ≡ m1 = omega arith in
     let q : min (min m2 mark) (max m1 mark) ≡ m2 = omega arith in
-    (sym p ∙ g .2, sym q ∙ g .3, sym (xor-false neg) ∙ g .4)
+    λ i. record { least = (sym p ∙ g .2) i; next = (sym q ∙ g .3) i; neg = (sym (xor-false neg) ∙ g .4) i }

@@ -3,8 +3,8 @@ use mathlib.Core.Path.{_≡_, refl, sym, ap, ap₂, _∙_, subst}
 use mathlib.Core.Logic.{_⊎_, inl, inr}
 use mathlib.Core.Bool.{Bool}
 use mathlib.Core.List.{List, [], _∷_, _++_}
-use Prim.Native.Nat.{ℕ, zero, suc, _+_, _*_, _%_, _≤_, _<_, min, max}
-use native.Mathlib.Nat.{min-eq-left, min-eq-right, max-eq-left, max-eq-right}
+use Prim.Native.Nat.{ℕ, _+_, _*_, _%_, _≤_, _<_, min, max}
+use native.Mathlib.Nat.{zero-add, mod-add-mod, mod-eq-of-lt, min-eq-left, min-eq-right, max-eq-left, max-eq-right}
 use native.Mathlib.Omega.{arith}
 use lib.IntN.{ℤ, pos, natAbs}
 use lib.ListN.{length, take, drop, length-drop, take-append-drop}
@@ -12,9 +12,11 @@ use lib.Seq.{length-take-le, getD-take, getD-drop}
 use Rattle.model.specs.Soft.{mark, negative}
 use Rattle.words.specs.Words.{xor, word, write}
 use Rattle.words.proofs.Store.{source-both}
-use Rattle.classes.specs.Sums.{strided, least, next, parity}
+use Rattle.classes.specs.Sums.{strided}
+use Rattle.classes.specs.LeastSizes.{least, next, parity}
 use Rattle.classes.specs.Folds.{fourList, column}
-use Rattle.classes.proofs.Classes.{either, median, min-second, min-third, xor-assoc, xor-comm, xor-none, strided-all, strided-skip, strided-step, strided-end, Gath, gath-turn}
+use Rattle.classes.proofs.Strided.{strided-skip, strided-step, strided-end, strided-append}
+use Rattle.classes.proofs.LeastSizes.{either, median, min-second, min-third, xor-assoc, xor-comm, xor-none, Gath, gath-turn}
 
 -- ---- lists with the same least size, next one and parity
 pub record Same (l r : List ℤ) : Type 0 where
@@ -100,27 +102,11 @@ gath-list (x ∷ k) m1 m2 neg rest whole g =
     let r : xor (xor (negative x) (parity k)) neg ≡ xor (parity k) (xor (negative x) neg) = ap (λ (b : Bool). xor b neg) (xor-comm (negative x) (parity k)) ∙ xor-assoc (parity k) (negative x) neg in
     rw (q, p, r) (gath-list k (min (natAbs x) m1) (min m2 (max (natAbs x) m1)) (xor (negative x) neg) rest whole (gath-turn m1 m2 neg x (k ++ rest) whole g))
 
--- ---- a class of places, quarter by quarter
-strided-pairs : {A : Type 0} (c : ℕ) → c ≤ 1 → (a l : List A) → length a % 2 ≡ 0 → strided 1 c (a ++ l) ≡ strided 1 c a ++ strided 1 c l
-unfolding strided
-strided-pairs c hc [] l h = refl
-strided-pairs c hc (x ∷ []) l h = absurd (omega arith)
-strided-pairs {A} zero hc (x ∷ y ∷ a) l h = ap (λ (t : List A). x ∷ t) (strided-pairs 0 hc a l (omega arith))
-strided-pairs {A} (suc zero) hc (x ∷ y ∷ a) l h = ap (λ (t : List A). y ∷ t) (strided-pairs 1 hc a l (omega arith))
-strided-pairs (suc (suc c)) hc (x ∷ y ∷ a) l h = absurd (omega arith)
+-- ---- a class of places, quarter by quarter: those from i on, in each of the quarters of q numbers
+abbrev pub rest : ℕ → ℕ → List ℤ → ℕ → List ℤ
+rest p q l i = strided p 0 (drop i (take q l)) ++ (strided p 0 (drop i (take q (drop q l))) ++ (strided p 0 (drop i (take q (drop q (drop q l)))) ++ strided p 0 (drop i (drop q (drop q (drop q l))))))
 
-strided-append : {A : Type 0} (d c : ℕ) → d ≤ 1 → c ≤ d → (a l : List A) → length a % (d + 1) ≡ 0 → strided d c (a ++ l) ≡ strided d c a ++ strided d c l
-strided-append zero zero hd hc a l h = strided-all (a ++ l) ∙ sym (ap₂ (λ r s. r ++ s) (strided-all a) (strided-all l))
-strided-append zero (suc c) hd hc a l h = absurd (omega arith)
-strided-append (suc zero) c hd hc a l h = strided-pairs c hc a l h
-strided-append (suc (suc d)) c hd hc a l h = absurd (omega arith)
-
--- a list of four quarters, each of q numbers
-module _ (d q : ℕ) (l : List ℤ) (len : length l ≡ 4 * q) where
-  -- the places of the class from i on, in each quarter
-  abbrev pub rest : ℕ → List ℤ
-  rest i = strided d 0 (drop i (take q l)) ++ (strided d 0 (drop i (take q (drop q l))) ++ (strided d 0 (drop i (take q (drop q (drop q l)))) ++ strided d 0 (drop i (drop q (drop q (drop q l))))))
-
+module _ (p : ℕ) (pos-p : 0 < p) (q : ℕ) (l : List ℤ) (len : length l ≡ 4 * q) where
   len1 : length (drop q l) ≡ 3 * q
   len1 = omega (arith, length-drop q l)
 
@@ -130,37 +116,37 @@ module _ (d q : ℕ) (l : List ℤ) (len : length l ≡ 4 * q) where
   len3 : length (drop q (drop q (drop q l))) ≡ q
   len3 = omega (arith, len2, length-drop q (drop q (drop q l)))
 
-  module _ (c : ℕ) (hd : d ≤ 1) (hc : c ≤ d) (even : q % (d + 1) ≡ 0) where
-    first : (r : List ℤ) → q ≤ length r → strided d 0 (drop c (take q r)) ++ strided d c (drop q r) ≡ strided d c r
+  module _ (c : ℕ) (hc : c < p) (whole : q % p ≡ 0) where
+    first : (r : List ℤ) → q ≤ length r → strided p 0 (drop c (take q r)) ++ strided p c (drop q r) ≡ strided p c r
     first r h =
-        ap (λ (t : List ℤ). t ++ strided d c (drop q r)) (sym (strided-skip d c (take q r)))
-        ∙ sym (strided-append d c hd hc (take q r) (drop q r) (rw (length-take-le q r h) even))
-        ∙ ap (strided d c) (take-append-drop q r)
+        ap (λ (t : List ℤ). t ++ strided p c (drop q r)) (sym (strided-skip p pos-p c (take q r)))
+        ∙ sym (strided-append p pos-p c hc (take q r) (drop q r) c hc (rw (length-take-le q r h) (sym (mod-add-mod q p c) ∙ ap (λ (n : ℕ). (n + c) % p) whole ∙ ap (λ (n : ℕ). n % p) (zero-add c) ∙ mod-eq-of-lt hc)))
+        ∙ ap (strided p c) (take-append-drop q r)
 
-    pub rest-start : rest c ≡ strided d c l
+    pub rest-start : rest p q l c ≡ strided p c l
     rest-start =
-        ap (λ (t : List ℤ). strided d 0 (drop c (take q l)) ++ t)
-        (ap (λ (t : List ℤ). strided d 0 (drop c (take q (drop q l))) ++ t)
-        (ap (λ (t : List ℤ). strided d 0 (drop c (take q (drop q (drop q l)))) ++ t) (sym (strided-skip d c (drop q (drop q (drop q l)))))
+        ap (λ (t : List ℤ). strided p 0 (drop c (take q l)) ++ t)
+        (ap (λ (t : List ℤ). strided p 0 (drop c (take q (drop q l))) ++ t)
+        (ap (λ (t : List ℤ). strided p 0 (drop c (take q (drop q (drop q l)))) ++ t) (sym (strided-skip p pos-p c (drop q (drop q (drop q l)))))
         ∙ first (drop q (drop q l)) (omega (arith, len2)))
         ∙ first (drop q l) (omega (arith, len1)))
         ∙ first l (omega arith)
 
-  pub rest-end : (i : ℕ) → q ≤ i → rest i ≡ []
+  pub rest-end : (i : ℕ) → q ≤ i → rest p q l i ≡ []
   rest-end i h =
       let n0 = length-take-le q l (omega arith) in
       let n1 = length-take-le q (drop q l) (omega (arith, len1)) in
       let n2 = length-take-le q (drop q (drop q l)) (omega (arith, len2)) in
       λ t.
-      strided-end d i (take q l) (omega arith) t
-      ++ (strided-end d i (take q (drop q l)) (omega arith) t
-      ++ (strided-end d i (take q (drop q (drop q l))) (omega arith) t ++ strided-end d i (drop q (drop q (drop q l))) (omega (arith, len3)) t))
+      strided-end p pos-p i (take q l) (omega arith) t
+      ++ (strided-end p pos-p i (take q (drop q l)) (omega arith) t
+      ++ (strided-end p pos-p i (take q (drop q (drop q l))) (omega arith) t ++ strided-end p pos-p i (drop q (drop q (drop q l))) (omega (arith, len3)) t))
 
   module _ (i : ℕ) (h : i < q) where
-    step-at : (a : List ℤ) (v : ℤ) → i < length a → word a i ≡ v → strided d 0 (drop i a) ≡ v ∷ strided d 0 (drop (i + (d + 1)) a)
-    step-at a v lt e = strided-step d i a (pos 0) lt ∙ ap (λ (z : ℤ). z ∷ strided d 0 (drop (i + (d + 1)) a)) e
+    step-at : (a : List ℤ) (v : ℤ) → i < length a → word a i ≡ v → strided p 0 (drop i a) ≡ v ∷ strided p 0 (drop (i + p) a)
+    step-at a v lt e = strided-step p pos-p i a (pos 0) lt ∙ ap (λ (z : ℤ). z ∷ strided p 0 (drop (i + p) a)) e
 
-    pub rest-step : Same (rest i) (column l q i ++ rest (i + (d + 1)))
+    pub rest-step : Same (rest p q l i) (column l q i ++ rest p q l (i + p))
     rest-step =
         let n0 = length-take-le q l (omega arith) in
         let n1 = length-take-le q (drop q l) (omega (arith, len1)) in
@@ -171,14 +157,14 @@ module _ (d q : ℕ) (l : List ℤ) (len : length l ≡ 4 * q) where
         let e1 = step-at (take q (drop q l)) (word l (q + i)) (omega arith) (getD-take q (drop q l) i (pos 0) h ∙ getD-drop q l i (pos 0)) in
         let e2 = step-at (take q (drop q (drop q l))) (word l (2 * q + i)) (omega arith) (getD-take q (drop q (drop q l)) i (pos 0) h ∙ getD-drop q (drop q l) i (pos 0) ∙ getD-drop q l (q + i) (pos 0) ∙ ap (word l) j2) in
         let e3 = step-at (drop q (drop q (drop q l))) (word l (3 * q + i)) (omega (arith, len3)) (getD-drop q (drop q (drop q l)) i (pos 0) ∙ getD-drop q (drop q l) (q + i) (pos 0) ∙ getD-drop q l (q + (q + i)) (pos 0) ∙ ap (word l) j3) in
-        subst (λ (t : List ℤ). Same t (column l q i ++ rest (i + (d + 1)))) (sym (λ t. e0 t ++ (e1 t ++ (e2 t ++ e3 t))))
-        (same-column (word l i) (word l (q + i)) (word l (2 * q + i)) (word l (3 * q + i)) (strided d 0 (drop (i + (d + 1)) (take q l))) (strided d 0 (drop (i + (d + 1)) (take q (drop q l)))) (strided d 0 (drop (i + (d + 1)) (take q (drop q (drop q l))))) (strided d 0 (drop (i + (d + 1)) (drop q (drop q (drop q l))))))
+        subst (λ (t : List ℤ). Same t (column l q i ++ rest p q l (i + p))) (sym (λ t. e0 t ++ (e1 t ++ (e2 t ++ e3 t))))
+        (same-column (word l i) (word l (q + i)) (word l (2 * q + i)) (word l (3 * q + i)) (strided p 0 (drop (i + p) (take q l))) (strided p 0 (drop (i + p) (take q (drop q l)))) (strided p 0 (drop (i + p) (take q (drop q (drop q l))))) (strided p 0 (drop (i + p) (drop q (drop q (drop q l))))))
 
     -- a turn of the loop over the folded quarter
-    pub column-turn : (m1 m2 : ℕ) (neg : Bool) (whole : List ℤ) → Gath m1 m2 neg (rest i) whole
-        → Gath (min (least (column l q i)) m1) (min (min m2 (next (column l q i))) (max (least (column l q i)) m1)) (xor (parity (column l q i)) neg) (rest (i + (d + 1))) whole
+    pub column-turn : (m1 m2 : ℕ) (neg : Bool) (whole : List ℤ) → Gath m1 m2 neg (rest p q l i) whole
+        → Gath (min (least (column l q i)) m1) (min (min m2 (next (column l q i))) (max (least (column l q i)) m1)) (xor (parity (column l q i)) neg) (rest p q l (i + p)) whole
     column-turn m1 m2 neg whole g =
-        gath-list (column l q i) m1 m2 neg (rest (i + (d + 1))) whole (gath-same m1 m2 neg (rest i) (column l q i ++ rest (i + (d + 1))) whole rest-step g)
+        gath-list (column l q i) m1 m2 neg (rest p q l (i + p)) whole (gath-same m1 m2 neg (rest p q l i) (column l q i ++ rest p q l (i + p)) whole rest-step g)
 
 -- ---- the loop that folds: the list from x on, while the first k words of two runs of q words below it are stored
 module _ (w₀ w : List ℤ) (m x q k : ℕ) (f g : ℕ → ℤ) (apart : m + 4 * q ≤ x) (le : k ≤ q) (e : w ≡ write (write w₀ m k f) (m + q) k g) where
