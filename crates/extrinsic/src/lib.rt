@@ -33,9 +33,11 @@ fn leave_out(x: i32, g: Gathered) -> i32
     requires { ⌜ Sizes g ⌝ }
     ensures { λ r. ⌜ r ≡ leaveOut g x ⌝ }
 {
+    let least = g.least;
+    let neg = g.neg;
     let s = size_word(x);
-    let m = pick_size(s == g.least, g.next, g.least);
-    with_sign(g.neg != (x < 0), m as i32)
+    let m = pick_size(s == least, g.next, least);
+    with_sign(neg != (x < 0), m as i32)
 }
 
 // w[m + k] = the total of place k - w[x + k], four places at a time: the four words are read before any value is stored.

@@ -48,7 +48,7 @@ loop-again c =
     let m1 = c .min-size2 .ensures ∙ ap (λ (n : ℕ). min n (b .loop .m1)) size in
     let m2 = c .before .min-size .ensures ∙ ap (min (b .loop .m2)) (after-max .max-size .ensures ∙ ap (λ (n : ℕ). max n (b .loop .m1)) size) in
     let n : not (Bool·beq (ltZ (toZ w32 (ofZ w32 x)) (pos 0)) (b .loop .neg)) ≡ xor (negative x) (b .loop .neg) = ap (λ (t : Bool). xor t (b .loop .neg)) (ltZ-zero (toZ w32 (ofZ w32 x)) ∙ ap negative own) in
-    rw (m1, m2, n) (gath-turn (b .loop .m1) (b .loop .m2) (b .loop .neg) x rest whole g)
+    rw (m1, m2, n) (gath-turn (b .loop .m1) (b .loop .m2) (b .loop .neg) x rest whole (b .before .pre .1 (b .loop .i)) g)
 
 returns : tie.Need-returns Inv-loop μ-loop
 returns c =

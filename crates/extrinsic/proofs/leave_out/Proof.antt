@@ -18,25 +18,25 @@ use Rattle.extrinsic.proofs.leave_out.Statement.{statement}
 use Rattle.extrinsic.proofs.leave_out.Tie as tie
 
 -- the size, and its bound
-pick-is : (c : tie.After-pick-size) → let a = c .before .before .before .args in c .pick-size .result ≡ cond (eqb (natAbs (a .x)) (a .g .least)) (a .g .next) (a .g .least)
+pick-is : (c : tie.After-pick-size) → let a = c .before .before .args in c .pick-size .result ≡ cond (eqb (natAbs (a .x)) (a .g .least)) (a .g .next) (a .g .least)
 pick-is c =
-    let s = c .before .before .before in
+    let s = c .before .before in
     c .pick-size .ensures
-    ∙ ap (λ (n : ℕ). cond (eqb n (s .args .g .least)) (s .args .g .next) (s .args .g .least)) (c .before .before .size-word .ensures ∙ ap natAbs (toZ-ofZ (s .fits .x)))
+    ∙ ap (λ (n : ℕ). cond (eqb n (s .args .g .least)) (s .args .g .next) (s .args .g .least)) (c .before .size-word .ensures ∙ ap natAbs (toZ-ofZ (s .fits .x)))
 
 pick-le : (c : tie.After-pick-size) → c .pick-size .result ≤ mark
-pick-le c = let s = c .before .before .before in rw (pick-is c) (cond-both (λ n. n ≤ mark) (eqb (natAbs (s .args .x)) (s .args .g .least)) (s .pre .1 .1) (s .pre .1 .0))
+pick-le c = let s = c .before .before in rw (pick-is c) (cond-both (λ n. n ≤ mark) (eqb (natAbs (s .args .x)) (s .args .g .least)) (s .pre .1 .1) (s .pre .1 .0))
 
 cast-with-sign : tie.Need-cast-with-sign
-cast-with-sign c = fits-word (pos (c .before .pick-size .result)) (pick-le (c .before))
+cast-with-sign c = fits-word (pos (c .pick-size .result)) (pick-le c)
 
 with-sign-requires : tie.Need-with-sign-requires
-with-sign-requires c κs = rw (toZ-ofZ (cast-with-sign c)) (pick-le (c .before))
+with-sign-requires c κs = rw (toZ-ofZ (cast-with-sign c)) (pick-le c)
 
 returns : tie.Need-returns
 returns c =
-    let s = c .before .before .before .before .before in
-    let m = toZ-ofZ (cast-with-sign (c .before)) ∙ ap pos (pick-is (c .before .before)) in
+    let s = c .before .before .before in
+    let m = toZ-ofZ (cast-with-sign (c .before)) ∙ ap pos (pick-is (c .before)) in
     let g = s .args .g in
     back (c .with-sign .ok) ∙ c .with-sign .ensures
     ∙ ap₂ (λ (t : Bool) (z : ℤ). cond t (negℤ z) z) (ap (xor (g .neg)) (ltZ-zero (toZ w32 (ofZ w32 (s .args .x))) ∙ ap negative (toZ-ofZ (s .fits .x)))) m

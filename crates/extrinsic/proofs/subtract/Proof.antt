@@ -1,10 +1,13 @@
 -- `extrinsic::subtract` meets its contract. The loop's invariant: the first k differences are stored, and k is a multiple of 4. Assumes nothing.
 use mathlib.Core.Path.{_≡_, refl, sym, ap, ap₂, _∙_, subst}
-use Prim.Native.Nat.{ℕ, _+_, _-_, _%_, _≤_, _<_}
+use Prim.Native.Nat.{ℕ, _+_, _-_, _%_, _^_, _≤_, _<_}
 use native.Mathlib.Omega.{arith}
 use native.Mathlib.Nat.{le-antisymm}
 use lib.IntN.{ℤ, pos, _-ℤ_}
 use lib.ListN.{length}
+use lib.Signed.{mag}
+use mir.Val.{toZ, ofZ}
+use mir.Syntax.{w32}
 use Rattle.words.specs.Words.{Word, word, write}
 use Rattle.words.proofs.Signed.{back}
 use Rattle.words.proofs.Store.{store-none}
@@ -26,26 +29,38 @@ abbrev μ-loop : tie.MeasureT-loop
 loop-holds : tie.Need-loop-holds Inv-loop μ-loop
 loop-holds c = (omega arith, refl, store-none (pos 0) _ _ _, refl)
 
+-- the difference, read back from bits
+less-is : (t v : ℤ) → mag t < 2 ^ 31 → mag v < 2 ^ 31 → toZ w32 (ofZ w32 t) -ℤ toZ w32 (ofZ w32 v) ≡ t -ℤ v
+less-is t v ht hv = ap₂ (λ (y z : ℤ). y -ℤ z) (back {z = t} ht) (back {z = v} hv)
+
 -- the difference at place k + j is a word
-fits : (d : tie.After-d Inv-loop μ-loop) (i j : ℕ) → let l = d .before .before .before .before .before in let a = l .before .args in j < 4 → i ≡ a .x + (l .loop .k + j) → Word (less (a .t) j (word (l .loop .w) i))
-fits d i j lt e =
-    let l = d .before .before .before .before .before in
+abbrev at-loop : tie.After-d Inv-loop μ-loop → tie.At-loop Inv-loop μ-loop
+at-loop d = d .before .before .before .before .before
+
+abbrev place : tie.After-d Inv-loop μ-loop → ℕ
+place d = at-loop d .before .args .x + at-loop d .loop .k
+
+fits : (d : tie.After-d Inv-loop μ-loop) (i j : ℕ) → let l = at-loop d in let a = l .before .args in j < 4 → i ≡ a .x + (l .loop .k + j) → mag (totalAt (a .t) j) < 2 ^ 31 → mag (word (l .loop .w) i) < 2 ^ 31
+    → Word (toZ w32 (ofZ w32 (totalAt (a .t) j)) -ℤ toZ w32 (ofZ w32 (word (l .loop .w) i)))
+fits d i j lt e ht hv =
+    let l = at-loop d in
     let a = l .before .args in
     let p = l .before .pre .0 in
-    subst Word (sym (value-is (less (a .t)) (a .w .now) (l .loop .w) (a .m) (a .x) (l .loop .k) (l .loop .inv .2) (l .loop .inv .1) (omega arith) i j lt e))
+    subst Word
+    (sym (less-is (totalAt (a .t) j) (word (l .loop .w) i) ht hv ∙ value-is (less (a .t)) (a .w .now) (l .loop .w) (a .m) (a .x) (l .loop .k) (l .loop .inv .2) (l .loop .inv .1) (omega arith) i j lt e))
     (l .before .pre .1 (l .loop .k + j) (omega arith))
 
 sub-words-requires : tie.Need-sub-words-requires Inv-loop μ-loop
-sub-words-requires c κs = let d = c .before in rw (back (c .struct-told .given .0 .1), back (d .before .before .before .a .given)) (fits d _ 0 (omega arith) (omega arith))
+sub-words-requires c κs = let d = c .before in fits d (place d) 0 (omega arith) (omega arith) (c .struct-told .given .0 .1) (d .before .before .before .a .given)
 
 sub-words-requires-2 : tie.Need-sub-words-requires-2 Inv-loop μ-loop
-sub-words-requires-2 c κs = let d = c .before .before .before in rw (back (c .struct-told2 .given .1 .0 .1), back (d .before .before .b .given)) (fits d _ 1 (omega arith) (omega arith))
+sub-words-requires-2 c κs = let d = c .before .before .before in fits d (place d + 1) 1 (omega arith) (omega arith) (c .struct-told2 .given .1 .0 .1) (d .before .before .b .given)
 
 sub-words-requires-3 : tie.Need-sub-words-requires-3 Inv-loop μ-loop
-sub-words-requires-3 c κs = let d = c .before .before .before .before .before in rw (back (c .struct-told3 .given .1 .1 .0 .1), back (d .before .c .given)) (fits d _ 2 (omega arith) (omega arith))
+sub-words-requires-3 c κs = let d = c .before .before .before .before .before in fits d (place d + 2) 2 (omega arith) (omega arith) (c .struct-told3 .given .1 .1 .0 .1) (d .before .c .given)
 
 sub-words-requires-4 : tie.Need-sub-words-requires-4 Inv-loop μ-loop
-sub-words-requires-4 c κs = let d = c .before .before .before .before .before .before .before in rw (back (c .struct-told4 .given .1 .1 .1 .0 .1), back (d .d .given)) (fits d _ 3 (omega arith) (omega arith))
+sub-words-requires-4 c κs = let d = c .before .before .before .before .before .before .before in fits d (place d + 3) 3 (omega arith) (omega arith) (c .struct-told4 .given .1 .1 .1 .0 .1) (d .d .given)
 
 loop-again : tie.Need-loop-again Inv-loop μ-loop
 loop-again c =
@@ -55,7 +70,7 @@ loop-again c =
     let found2 = found3 .before .before in
     let found1 = found2 .before .before in
     let d = found1 .before .before in
-    let l = d .before .before .before .before .before in
+    let l = at-loop d in
     let a = l .before .args in
     let p = l .before .pre .0 in
     let lt = d .before .before .before .before .loop-test .taken in
@@ -65,10 +80,10 @@ loop-again c =
       omega (arith, e),
       called .store-four .ensures
           ∙ four-stored (less (a .t)) (a .w .now) (l .loop .w) (a .m) (a .x) (l .loop .k) (l .loop .inv .2) (l .loop .inv .1) (omega arith) _ _ _ _
-          (back (found1 .sub-words .ok) ∙ found1 .sub-words .ensures ∙ ap₂ (λ (y z : ℤ). y -ℤ z) (back {z = a .t .at0} (found1 .before .struct-told .given .0 .1)) (back {z = word (l .loop .w) i} (d .before .before .before .a .given)))
-          (back (found2 .sub-words2 .ok) ∙ found2 .sub-words2 .ensures ∙ ap₂ (λ (y z : ℤ). y -ℤ z) (back {z = a .t .at1} (found2 .before .struct-told2 .given .1 .0 .1)) (back {z = word (l .loop .w) (i + 1)} (d .before .before .b .given)))
-          (back (found3 .sub-words3 .ok) ∙ found3 .sub-words3 .ensures ∙ ap₂ (λ (y z : ℤ). y -ℤ z) (back {z = a .t .at2} (found3 .before .struct-told3 .given .1 .1 .0 .1)) (back {z = word (l .loop .w) (i + 2)} (d .before .c .given)))
-          (back (found4 .sub-words4 .ok) ∙ found4 .sub-words4 .ensures ∙ ap₂ (λ (y z : ℤ). y -ℤ z) (back {z = a .t .at3} (found4 .before .struct-told4 .given .1 .1 .1 .0 .1)) (back {z = word (l .loop .w) (i + 3)} (d .d .given))),
+          (back (found1 .sub-words .ok) ∙ found1 .sub-words .ensures ∙ less-is (a .t .at0) (word (l .loop .w) i) (found1 .before .struct-told .given .0 .1) (d .before .before .before .a .given))
+          (back (found2 .sub-words2 .ok) ∙ found2 .sub-words2 .ensures ∙ less-is (a .t .at1) (word (l .loop .w) (i + 1)) (found2 .before .struct-told2 .given .1 .0 .1) (d .before .before .b .given))
+          (back (found3 .sub-words3 .ok) ∙ found3 .sub-words3 .ensures ∙ less-is (a .t .at2) (word (l .loop .w) (i + 2)) (found3 .before .struct-told3 .given .1 .1 .0 .1) (d .before .c .given))
+          (back (found4 .sub-words4 .ok) ∙ found4 .sub-words4 .ensures ∙ less-is (a .t .at3) (word (l .loop .w) (i + 3)) (found4 .before .struct-told4 .given .1 .1 .1 .0 .1) (d .d .given)),
       called .store-four .kept .0 ∙ l .loop .inv .3,
     )
 
