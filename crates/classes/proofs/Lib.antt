@@ -1,3 +1,5 @@
-pub mod Classes
-pub mod Columns
-pub mod Sizes
+pub mod Strided
+pub mod Sums
+pub mod LeastSizes
+pub mod FourWords
+pub mod Folding

@@ -4,7 +4,7 @@ use mathlib.Core.List.{List, [], _∷_}
 use Prim.Native.Nat.{ℕ, _+_, _*_}
 use lib.IntN.{ℤ, pos, negsuc}
 use Rattle.words.specs.Words.{word}
-use Rattle.classes.specs.Sums.{least, next, parity}
+use Rattle.classes.specs.LeastSizes.{least, next, parity}
 
 -- a list of four numbers
 abbrev pub fourList : ℤ → ℤ → ℤ → ℤ → List ℤ

@@ -1,16 +1,14 @@
--- Sums, least sizes and sign parities over a class of places, as the loops gather them. Assumes nothing.
-use mathlib.Core.Bool.{Bool, false}
+-- Sums over a class of places, as the loops gather them. Assumes nothing.
 use mathlib.Core.List.{List, [], _∷_}
-use Prim.Native.Nat.{ℕ, zero, suc, _+_, min, max}
+use Prim.Native.Nat.{ℕ, zero, suc, _+_, _-_, _%_}
 use lib.IntN.{ℤ, pos, natAbs, _+ℤ_}
-use Rattle.words.specs.Words.{xor}
-use Rattle.model.specs.Soft.{mark, negative}
+use Rattle.classes.specs.declared.Totals.{Totals}
 
--- the elements at c, c + (d + 1), c + 2 (d + 1), ..: with d = 0 and c = 0 all, with d = 1 those at even (c = 0) or odd (c = 1) places
+-- the elements at c, c + p, c + 2 p, ..: the class c of the places modulo p
 unfoldable pub strided : {A : Type 0} → ℕ → ℕ → List A → List A
-strided d c [] = []
-strided d zero (x ∷ xs) = x ∷ strided d d xs
-strided d (suc c) (x ∷ xs) = strided d c xs
+strided p c [] = []
+strided p zero (x ∷ xs) = x ∷ strided p (p - 1) xs
+strided p (suc c) (x ∷ xs) = strided p c xs
 
 -- the sum of numbers
 unfoldable pub sumZ : List ℤ → ℤ
@@ -22,15 +20,10 @@ unfoldable pub sizes : List ℤ → ℕ
 sizes [] = 0
 sizes (x ∷ xs) = natAbs x + sizes xs
 
--- the least size, the one next to it, and whether the product of the signs is negative
-unfoldable pub least : List ℤ → ℕ
-least [] = mark
-least (x ∷ xs) = min (natAbs x) (least xs)
+-- the sum over a class
+abbrev pub sumOf : ℕ → List ℤ → ℕ → ℤ
+sumOf p l c = sumZ (strided p c l)
 
-unfoldable pub next : List ℤ → ℕ
-next [] = mark
-next (x ∷ xs) = min (next xs) (max (natAbs x) (least xs))
-
-unfoldable pub parity : List ℤ → Bool
-parity [] = false
-parity (x ∷ xs) = xor (negative x) (parity xs)
+-- the sums over the classes of the places 0, 1, 2 and 3
+abbrev pub totalsOf : ℕ → List ℤ → Totals
+totalsOf p l = record { at0 = sumOf p l (0 % p); at1 = sumOf p l (1 % p); at2 = sumOf p l (2 % p); at3 = sumOf p l (3 % p) }

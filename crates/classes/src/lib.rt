@@ -1,4 +1,5 @@
-// What is gathered over a class of places of a node's incoming list: sums, the two least sizes, the product of the signs.
+// What is gathered over a class of places of a node's incoming list: sums, the two least sizes, the product of the signs. A class is the places that are
+// equal modulo a period p.
 use words::abs_word;
 use words::max_word;
 use words::min_word;
@@ -12,7 +13,8 @@ ghost use lib.Signed.{mag};
 ghost use lib.ListN.{length, drop};
 ghost use Rattle.model.specs.Soft.{mark, negative};
 ghost use Rattle.words.specs.Words.{Word, word, write, Words, Holds};
-ghost use Rattle.classes.specs.Sums.{strided, sumZ, sizes, least, next, parity};
+ghost use Rattle.classes.specs.Sums.{strided, sizes, sumOf, totalsOf};
+ghost use Rattle.classes.specs.LeastSizes.{least, next, parity, gatherClass, gatherAll, byTurns};
 ghost use Rattle.classes.specs.Folds.{fourList, keepSign, lowAt, highAt};
 
 fn min_size(a: u32, b: u32) -> u32
@@ -27,33 +29,66 @@ fn max_size(a: u32, b: u32) -> u32
     if a < b { b } else { a }
 }
 
-// The sum over the places c, c + d + 1, ..
-pub fn class_sum(l: &[i32], d: usize, c: usize) -> i32
-    requires { ⌜ (d ≤ 1) × (c ≤ d) ⌝ }
-    requires { ⌜ sizes (strided d c (now l)) ≤ mark ⌝ }
-    ensures { λ r. ⌜ r ≡ sumZ (strided d c (now (l .entry))) ⌝ }
+// The sum over the places c, c + p, ..
+fn class_sum(l: &[i32], p: usize, c: usize) -> i32
+    requires { ⌜ (0 < p) × (p ≤ 4) ⌝ }
+    requires { ⌜ sizes (strided p c (now l)) ≤ mark ⌝ }
+    ensures { λ r. ⌜ r ≡ sumOf p (now (l .entry)) c ⌝ }
 {
     let mut t = 0i32;
     let mut i = c;
     while i < l.len() {
         t += l[i];
-        i += d + 1;
+        i += p;
     }
     t
 }
 
-// What is gathered for SPC: the least size, the one next to it, and whether the product of the signs is negative.
+// The sums that the places 0, 1, 2 and 3 modulo 4 use: each the sum over its class.
+pub struct Totals {
+    pub at0: i32,
+    pub at1: i32,
+    pub at2: i32,
+    pub at3: i32,
+}
+
+// The sums over all classes of period p.
+pub fn class_totals(l: &[i32], p: usize) -> Totals
+    requires { ⌜ (0 < p) × (p ≤ 2) ⌝ }
+    requires { ⌜ sizes (now l) ≤ mark ⌝ }
+    ensures { λ r. ⌜ r ≡ totalsOf p (now (l .entry)) ⌝ }
+{
+    if p == 1 {
+        let t = class_sum(l, 1, 0);
+        return Totals {
+            at0: t,
+            at1: t,
+            at2: t,
+            at3: t,
+        };
+    }
+    let a = class_sum(l, 2, 0);
+    let b = class_sum(l, 2, 1);
+    Totals {
+        at0: a,
+        at1: b,
+        at2: a,
+        at3: b,
+    }
+}
+
+// What is gathered of a class: the least size, the one next to it, and whether the product of the signs is negative.
 pub struct Gathered {
     pub least: u32,
     pub next: u32,
     pub neg: bool,
 }
 
-// The two least sizes and the parity of the signs, over the places c, c + d + 1, ..
-pub fn gather(l: &[i32], d: usize, c: usize) -> Gathered
-    requires { ⌜ (d ≤ 1) × (c ≤ d) ⌝ }
+// The two least sizes and the parity of the signs, over the places c, c + p, ..
+fn gather(l: &[i32], p: usize, c: usize) -> Gathered
+    requires { ⌜ (0 < p) × (p ≤ 4) ⌝ }
     requires { ⌜ ((k : ℕ) → Word (word (now l) k)) ⌝ }
-    ensures { λ r. ⌜ (r .least ≡ least (strided d c (now (l .entry)))) × (r .next ≡ next (strided d c (now (l .entry)))) × (r .neg ≡ parity (strided d c (now (l .entry)))) ⌝ }
+    ensures { λ r. ⌜ r ≡ gatherClass p (now (l .entry)) c ⌝ }
 {
     let mut m1 = 2147483647u32;
     let mut m2 = 2147483647u32;
@@ -65,13 +100,46 @@ pub fn gather(l: &[i32], d: usize, c: usize) -> Gathered
         m2 = min_size(m2, max_size(s, m1));
         m1 = min_size(s, m1);
         neg = (x < 0) != neg;
-        i += d + 1;
+        i += p;
     }
     Gathered {
         least: m1,
         next: m2,
         neg,
     }
+}
+
+// What the places 0, 1, 2 and 3 modulo 4 use: each what is gathered of its class.
+pub struct ByPlace {
+    pub at0: Gathered,
+    pub at1: Gathered,
+    pub at2: Gathered,
+    pub at3: Gathered,
+}
+
+// One thing at even places, another at odd ones.
+fn by_turns(a: Gathered, b: Gathered) -> ByPlace
+    ensures { λ r. ⌜ r ≡ byTurns a b ⌝ }
+{
+    ByPlace {
+        at0: a,
+        at1: b,
+        at2: a,
+        at3: b,
+    }
+}
+
+// What is gathered of all classes of period p.
+pub fn gather_all(l: &[i32], p: usize) -> ByPlace
+    requires { ⌜ (0 < p) × (p ≤ 2) ⌝ }
+    requires { ⌜ ((k : ℕ) → Word (word (now l) k)) ⌝ }
+    ensures { λ r. ⌜ r ≡ gatherAll p (now (l .entry)) ⌝ }
+{
+    if p == 1 {
+        let g = gather(l, 1, 0);
+        return by_turns(g, g);
+    }
+    by_turns(gather(l, 2, 0), gather(l, 2, 1))
 }
 
 // The least size of four words.
@@ -144,11 +212,11 @@ pub fn fold(w: &mut [i32], m: usize, x: usize, q: usize)
     }
 }
 
-// The two least sizes and the parity of the signs over the places c, c + d + 1, .. of a list, from what folding its quarters left at m.
-pub fn gather_folded(w: &[i32], m: usize, q: usize, d: usize, c: usize) -> Gathered
-    requires { ⌜ (d ≤ 1) × (c ≤ d) × (q % (d + 1) ≡ 0) × (m + q + q ≤ length (now w)) ⌝ }
+// What `gather` gives of a list, from what folding its quarters left at m.
+fn gather_folded(w: &[i32], m: usize, q: usize, p: usize, c: usize) -> Gathered
+    requires { ⌜ (0 < p) × (p ≤ 4) × (c < p) × (q % p ≡ 0) × (m + q + q ≤ length (now w)) ⌝ }
     requires { ⌜ ((k : ℕ) → k < q → negative (word (now w) (m + k)) ≡ false) ⌝ }
-    ensures { λ r. ⌜ ((l : List ℤ) → length l ≡ 4 * q → Holds (now (w .entry)) m q (lowAt l q) → Holds (now (w .entry)) (m + q) q (highAt l q) → (r .least ≡ least (strided d c l)) × (r .next ≡ next (strided d c l)) × (r .neg ≡ parity (strided d c l))) ⌝ }
+    ensures { λ r. ⌜ ((l : List ℤ) → length l ≡ 4 * q → Holds (now (w .entry)) m q (lowAt l q) → Holds (now (w .entry)) (m + q) q (highAt l q) → r ≡ gatherClass p l c) ⌝ }
 {
     let n = m + q;
     let mut m1 = 2147483647u32;
@@ -162,11 +230,24 @@ pub fn gather_folded(w: &[i32], m: usize, q: usize, d: usize, c: usize) -> Gathe
         m2 = min_size(min_size(m2, high), max_size(low, m1));
         m1 = min_size(low, m1);
         neg = (x < 0) != neg;
-        i += d + 1;
+        i += p;
     }
     Gathered {
         least: m1,
         next: m2,
         neg,
     }
+}
+
+// What `gather_all` gives of a list, from what folding its quarters left at m.
+pub fn gather_all_folded(w: &[i32], m: usize, q: usize, p: usize) -> ByPlace
+    requires { ⌜ (0 < p) × (p ≤ 2) × (q % 2 ≡ 0) × (m + q + q ≤ length (now w)) ⌝ }
+    requires { ⌜ ((k : ℕ) → k < q → negative (word (now w) (m + k)) ≡ false) ⌝ }
+    ensures { λ r. ⌜ ((l : List ℤ) → length l ≡ 4 * q → Holds (now (w .entry)) m q (lowAt l q) → Holds (now (w .entry)) (m + q) q (highAt l q) → r ≡ gatherAll p l) ⌝ }
+{
+    if p == 1 {
+        let g = gather_folded(w, m, q, 1, 0);
+        return by_turns(g, g);
+    }
+    by_turns(gather_folded(w, m, q, 2, 0), gather_folded(w, m, q, 2, 1))
 }

@@ -9,7 +9,7 @@ use lib.ListN.{length, drop, length-drop}
 use lib.Seq.{length-take-le, getD-take}
 use Rattle.model.specs.Soft.{negative}
 use Rattle.words.specs.Words.{Word, word, write, Words, Holds}
-use Rattle.classes.specs.Sums.{least, next, parity}
+use Rattle.classes.specs.LeastSizes.{least, next, parity}
 use Rattle.classes.specs.Folds.{fourList, column, keepSign, lowAt, highAt}
 use Rattle.words.proofs.Store.{length-write, write-in, write-below, write-above, write-is}
 use Rattle.messages.proofs.Messages.{partOf}

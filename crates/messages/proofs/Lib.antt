@@ -1,3 +1,4 @@
+pub mod Sizes
 pub mod Without
 pub mod Others
 pub mod Messages

@@ -1,23 +1,23 @@
 // The messages of the kinds, from a node's incoming list of words.
-use classes::class_sum;
+use classes::class_totals;
 use classes::fold;
-use classes::gather;
-use classes::gather_folded;
+use classes::gather_all;
+use classes::gather_all_folded;
 use extrinsic::spread;
 use extrinsic::subtract;
 use kinds::Kind;
 use words::fill;
 ghost use mathlib.Core.Path.{_≡_};
-ghost use mathlib.Core.Bool.{true, false};
+ghost use mathlib.Core.Bool.{false};
 ghost use mathlib.Core.List.{List};
-ghost use Prim.Native.Nat.{_+_, _%_, _≤_};
+ghost use Prim.Native.Nat.{_+_, _-_, _%_, _<_, _≤_};
 ghost use lib.ListN.{length};
-ghost use Rattle.model.specs.Soft.{Soft};
-ghost use Rattle.model.specs.Kinds.{shortcut, rate-0, rate-1, REP, SPC, type-I, type-III};
+ghost use Rattle.model.specs.Soft.{Soft, certain, softZero, box, plus};
+ghost use Rattle.model.specs.Kinds.{leastSize, shortcut, rate-0, rate-1, REP, SPC, type-I, type-III};
 ghost use Rattle.model.specs.Plans.{isRate01};
-ghost use Rattle.words.specs.Words.{soft, stored, Incoming};
+ghost use Rattle.words.specs.Words.{soft, stored, word, write, Incoming};
 ghost use Rattle.kinds.specs.Runs.{kindNamed};
-ghost use Rattle.messages.specs.Cut.{cutWords};
+ghost use Rattle.messages.specs.Cut.{cutWords, othersWords, Sized, leastOf};
 
 // The message of a rate-0 node: certain everywhere, whatever its incoming list L is.
 pub fn rate_zero_message(w: &mut [i32], m: usize, s: usize)
@@ -35,133 +35,117 @@ pub fn rate_one_message(w: &mut [i32], m: usize, s: usize)
     fill(w, m, s, 0);
 }
 
-// The message of a REP node: the sum of the other incoming values.
-pub fn rep_message(w: &mut [i32], m: usize, x: usize, s: usize)
-    requires { ⌜ (m + s ≤ x) × (x + s ≤ length (now w)) ⌝ }
+// The two incoming values in each other's place: the message of a REP and of an SPC node of size 2.
+fn swapped(w: &mut [i32], m: usize, x: usize)
+    requires { ⌜ (m + 2 ≤ x) × (x + 2 ≤ length (now w)) ⌝ }
+    ensures { λ _. ⌜ now (w .exit) ≡ write (now (w .entry)) m 2 (λ k. word (now (w .entry)) (x + (1 - k))) ⌝ }
+{
+    let a = w[x];
+    let b = w[x + 1];
+    w[m] = b;
+    w[m + 1] = a;
+}
+
+// The sum of the other incoming values of each place's class, by the period p.
+fn sum_message(w: &mut [i32], m: usize, x: usize, s: usize, p: usize)
+    requires { ⌜ (m + s ≤ x) × (x + s ≤ length (now w)) × (0 < p) × (p ≤ 2) × (s % 4 ≡ 0) ⌝ }
     requires { ⌜ Incoming (now w) x s ⌝ }
-    ensures { λ _. ⌜ now (w .exit) ≡ stored (now (w .entry)) m s (shortcut REP s (soft (now (w .entry)) x s)) ⌝ }
+    ensures { λ _. ⌜ now (w .exit) ≡ othersWords plus softZero p (now (w .entry)) m x s ⌝ }
 {
     let e = x + s;
-    let t = class_sum(&w[x..e], 0, 0);
-    subtract(w, m, x, s, t, t);
+    let t = class_totals(&w[x..e], p);
+    subtract(w, m, x, s, t);
 }
 
-// Whether the list of a node is folded before it is gathered: it is long, and its quarters have an even size.
-fn is_large(s: usize) -> bool
-    ensures { λ r. ⌜ (r ≡ true → s % 8 ≡ 0) ⌝ }
-{
-    if s < 32 { false } else { s % 8 == 0 }
-}
-
-// The message of an SPC node, gathered place by place.
-fn spc_small(w: &mut [i32], m: usize, x: usize, s: usize)
-    requires { ⌜ (m + s ≤ x) × (x + s ≤ length (now w)) ⌝ }
+// box over the other incoming values of each place's class, gathered place by place.
+fn box_small(w: &mut [i32], m: usize, x: usize, s: usize, p: usize)
+    requires { ⌜ (m + s ≤ x) × (x + s ≤ length (now w)) × (0 < p) × (p ≤ 2) × (s % 4 ≡ 0) ⌝ }
     requires { ⌜ Incoming (now w) x s ⌝ }
-    ensures { λ _. ⌜ now (w .exit) ≡ stored (now (w .entry)) m s (shortcut SPC s (soft (now (w .entry)) x s)) ⌝ }
+    ensures { λ _. ⌜ now (w .exit) ≡ othersWords box certain p (now (w .entry)) m x s ⌝ }
 {
     let e = x + s;
-    let g = gather(&w[x..e], 0, 0);
-    let m1 = g.least;
-    let m2 = g.next;
-    let neg = g.neg;
-    spread(w, m, x, s, m1, m2, neg, m1, m2, neg);
+    let g = gather_all(&w[x..e], p);
+    spread(w, m, x, s, g);
 }
 
-// The message of a large SPC node, gathered from the folded list. The folded list is in the message's own place, and the message is stored over it.
-fn spc_large(w: &mut [i32], m: usize, x: usize, s: usize)
-    requires { ⌜ (m + s ≤ x) × (x + s ≤ length (now w)) ⌝ }
+// The same for a long list, gathered from the folded list. That is in the message's own place, and the message is stored over it.
+fn box_large(w: &mut [i32], m: usize, x: usize, s: usize, p: usize)
+    requires { ⌜ (m + s ≤ x) × (x + s ≤ length (now w)) × (0 < p) × (p ≤ 2) × (s % 8 ≡ 0) ⌝ }
     requires { ⌜ Incoming (now w) x s ⌝ }
-    requires { ⌜ s % 8 ≡ 0 ⌝ }
-    ensures { λ _. ⌜ now (w .exit) ≡ stored (now (w .entry)) m s (shortcut SPC s (soft (now (w .entry)) x s)) ⌝ }
+    ensures { λ _. ⌜ now (w .exit) ≡ othersWords box certain p (now (w .entry)) m x s ⌝ }
 {
     let q = s / 4;
     fold(w, m, x, q);
-    let g = gather_folded(&w[..], m, q, 0, 0);
-    let low = g.least;
-    let next = g.next;
-    let neg = g.neg;
-    spread(w, m, x, s, low, next, neg, low, next, neg);
+    let g = gather_all_folded(&w[..], m, q, p);
+    spread(w, m, x, s, g);
+}
+
+// box over the other incoming values of each place's class, by the period p.
+fn box_message(w: &mut [i32], m: usize, x: usize, s: usize, p: usize)
+    requires { ⌜ (m + s ≤ x) × (x + s ≤ length (now w)) × (0 < p) × (p ≤ 2) ⌝ }
+    requires { ⌜ Sized 4 s ⌝ }
+    requires { ⌜ Incoming (now w) x s ⌝ }
+    ensures { λ _. ⌜ now (w .exit) ≡ othersWords box certain p (now (w .entry)) m x s ⌝ }
+{
+    if s < 32 {
+        box_small(w, m, x, s, p);
+    } else {
+        box_large(w, m, x, s, p);
+    }
+}
+
+// The message of a REP node: the sum of the other incoming values.
+pub fn rep_message(w: &mut [i32], m: usize, x: usize, s: usize)
+    requires { ⌜ (m + s ≤ x) × (x + s ≤ length (now w)) ⌝ }
+    requires { ⌜ Sized (leastSize REP) s ⌝ }
+    requires { ⌜ Incoming (now w) x s ⌝ }
+    ensures { λ _. ⌜ now (w .exit) ≡ stored (now (w .entry)) m s (shortcut REP s (soft (now (w .entry)) x s)) ⌝ }
+{
+    if s == 2 {
+        swapped(w, m, x);
+    } else {
+        sum_message(w, m, x, s, 1);
+    }
 }
 
 // The message of an SPC node: box over the other incoming values.
 pub fn spc_message(w: &mut [i32], m: usize, x: usize, s: usize)
     requires { ⌜ (m + s ≤ x) × (x + s ≤ length (now w)) ⌝ }
+    requires { ⌜ Sized (leastSize SPC) s ⌝ }
     requires { ⌜ Incoming (now w) x s ⌝ }
     ensures { λ _. ⌜ now (w .exit) ≡ stored (now (w .entry)) m s (shortcut SPC s (soft (now (w .entry)) x s)) ⌝ }
 {
-    if is_large(s) {
-        spc_large(w, m, x, s);
+    if s == 2 {
+        swapped(w, m, x);
     } else {
-        spc_small(w, m, x, s);
+        box_message(w, m, x, s, 1);
     }
 }
 
 // The message of a type I node: REP over even and over odd places.
 pub fn type_one_message(w: &mut [i32], m: usize, x: usize, s: usize)
     requires { ⌜ (m + s ≤ x) × (x + s ≤ length (now w)) ⌝ }
+    requires { ⌜ Sized (leastSize type-I) s ⌝ }
     requires { ⌜ Incoming (now w) x s ⌝ }
     ensures { λ _. ⌜ now (w .exit) ≡ stored (now (w .entry)) m s (shortcut type-I s (soft (now (w .entry)) x s)) ⌝ }
 {
-    let e = x + s;
-    let a = class_sum(&w[x..e], 1, 0);
-    let b = class_sum(&w[x..e], 1, 1);
-    subtract(w, m, x, s, a, b);
-}
-
-// The message of a type III node, gathered place by place.
-fn type_three_small(w: &mut [i32], m: usize, x: usize, s: usize)
-    requires { ⌜ (m + s ≤ x) × (x + s ≤ length (now w)) ⌝ }
-    requires { ⌜ Incoming (now w) x s ⌝ }
-    ensures { λ _. ⌜ now (w .exit) ≡ stored (now (w .entry)) m s (shortcut type-III s (soft (now (w .entry)) x s)) ⌝ }
-{
-    let e = x + s;
-    let a = gather(&w[x..e], 1, 0);
-    let b = gather(&w[x..e], 1, 1);
-    let a1 = a.least;
-    let a2 = a.next;
-    let an = a.neg;
-    let b1 = b.least;
-    let b2 = b.next;
-    let bn = b.neg;
-    spread(w, m, x, s, a1, a2, an, b1, b2, bn);
-}
-
-// The message of a large type III node, gathered from the folded list, which is in the message's own place.
-fn type_three_large(w: &mut [i32], m: usize, x: usize, s: usize)
-    requires { ⌜ (m + s ≤ x) × (x + s ≤ length (now w)) ⌝ }
-    requires { ⌜ Incoming (now w) x s ⌝ }
-    requires { ⌜ s % 8 ≡ 0 ⌝ }
-    ensures { λ _. ⌜ now (w .exit) ≡ stored (now (w .entry)) m s (shortcut type-III s (soft (now (w .entry)) x s)) ⌝ }
-{
-    let q = s / 4;
-    fold(w, m, x, q);
-    let even = gather_folded(&w[..], m, q, 1, 0);
-    let odd = gather_folded(&w[..], m, q, 1, 1);
-    let low = even.least;
-    let next = even.next;
-    let neg = even.neg;
-    let odd_low = odd.least;
-    let odd_next = odd.next;
-    let odd_neg = odd.neg;
-    spread(w, m, x, s, low, next, neg, odd_low, odd_next, odd_neg);
+    sum_message(w, m, x, s, 2);
 }
 
 // The message of a type III node: SPC over even and over odd places.
 pub fn type_three_message(w: &mut [i32], m: usize, x: usize, s: usize)
     requires { ⌜ (m + s ≤ x) × (x + s ≤ length (now w)) ⌝ }
+    requires { ⌜ Sized (leastSize type-III) s ⌝ }
     requires { ⌜ Incoming (now w) x s ⌝ }
     ensures { λ _. ⌜ now (w .exit) ≡ stored (now (w .entry)) m s (shortcut type-III s (soft (now (w .entry)) x s)) ⌝ }
 {
-    if is_large(s) {
-        type_three_large(w, m, x, s);
-    } else {
-        type_three_small(w, m, x, s);
-    }
+    box_message(w, m, x, s, 2);
 }
 
 // The message of a cut node, by its kind. A rate-0 or rate-1 node does not look at what it is handed.
 pub fn cut_message(w: &mut [i32], k: Kind, m: usize, x: usize, s: usize)
     requires { ⌜ (m + s ≤ x) × (x + s ≤ length (now w)) ⌝ }
+    requires { ⌜ Sized (leastOf (kindNamed k)) s ⌝ }
     requires { ⌜ (isRate01 (kindNamed k) ≡ false → Incoming (now w) x s) ⌝ }
     ensures { λ _. ⌜ now (w .exit) ≡ cutWords (kindNamed k) (now (w .entry)) m x s ⌝ }
 {

@@ -41,8 +41,8 @@ unfoldable pub write : {A : Type 0} → List A → ℕ → ℕ → (ℕ → A) �
 write w a zero f = w
 write w a (suc n) f = set (write w a n f) (a + n) (f n)
 
--- four words by their places
-abbrev pub four : ℤ → ℤ → ℤ → ℤ → ℕ → ℤ
+-- four things by their places
+abbrev pub four : {A : Type 0} → A → A → A → A → ℕ → A
 four p q r s zero = p
 four p q r s (suc zero) = q
 four p q r s (suc (suc zero)) = r

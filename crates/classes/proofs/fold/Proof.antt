@@ -12,11 +12,11 @@ use mir.Val.{toZ, ofZ}
 use mir.Syntax.{w32}
 use Rattle.model.specs.Soft.{negative}
 use Rattle.words.specs.Words.{Word, word, write}
-use Rattle.classes.specs.Sums.{least, next, parity}
+use Rattle.classes.specs.LeastSizes.{least, next, parity}
 use Rattle.classes.specs.Folds.{fourList, column, keepSign, lowAt, highAt}
 use Rattle.words.proofs.Signed.{back}
 use Rattle.words.proofs.Store.{store-none, store-both}
-use Rattle.classes.proofs.Columns.{list-at}
+use Rattle.classes.proofs.Folding.{list-at}
 use Rattle.classes.proofs.fold.Statement.{statement}
 use Rattle.classes.proofs.fold.Tie as tie
 
@@ -26,59 +26,11 @@ Inv-loop w₀ m x q n x1 x2 x3 k₀ w k = (k ≤ q) × (w ≡ write (write w₀ 
 abbrev μ-loop : tie.MeasureT-loop
 μ-loop w₀ m x q n x1 x2 x3 k₀ w k = q - k
 
-add-n : tie.Need-add-n Inv-loop μ-loop
-add-n c = omega arith
-
-add-x1 : tie.Need-add-x1 Inv-loop μ-loop
-add-x1 c = omega arith
-
-add-x2 : tie.Need-add-x2 Inv-loop μ-loop
-add-x2 c = omega arith
-
-add-x3 : tie.Need-add-x3 Inv-loop μ-loop
-add-x3 c = omega arith
-
 loop-holds : tie.Need-loop-holds Inv-loop μ-loop
 loop-holds c =
     let a = c .args in
     let l = drop (a .x) (a .w .now) in
     (omega arith, store-none (pos 0) (a .w .now) (a .m) (lowAt l (a .q)) ∙ store-none (pos 0) (write (a .w .now) (a .m) 0 (lowAt l (a .q))) (a .m + a .q) (highAt l (a .q)), refl)
-
-add-a : tie.Need-add-a Inv-loop μ-loop
-add-a c = omega arith
-
-mul-a : tie.Need-mul-a Inv-loop μ-loop
-mul-a c = omega arith
-
-slice-copy-out-a : tie.Need-slice-copy-out-a Inv-loop μ-loop
-slice-copy-out-a c = omega arith
-
-add-b : tie.Need-add-b Inv-loop μ-loop
-add-b c = omega arith
-
-mul-b : tie.Need-mul-b Inv-loop μ-loop
-mul-b c = omega arith
-
-slice-copy-out-b : tie.Need-slice-copy-out-b Inv-loop μ-loop
-slice-copy-out-b c = omega arith
-
-add-c : tie.Need-add-c Inv-loop μ-loop
-add-c c = omega arith
-
-mul-c : tie.Need-mul-c Inv-loop μ-loop
-mul-c c = omega arith
-
-slice-copy-out-c : tie.Need-slice-copy-out-c Inv-loop μ-loop
-slice-copy-out-c c = omega arith
-
-add-d : tie.Need-add-d Inv-loop μ-loop
-add-d c = omega arith
-
-mul-d : tie.Need-mul-d Inv-loop μ-loop
-mul-d c = omega arith
-
-slice-copy-out-d : tie.Need-slice-copy-out-d Inv-loop μ-loop
-slice-copy-out-d c = omega arith
 
 -- the words that a turn reads are the list's
 list-is : (c : tie.After-d Inv-loop μ-loop) (j i : ℕ) → let b = c .before .before .before .before .before in b .before .args .x + i ≡ j → word (b .loop .w) j ≡ word (drop (b .before .args .x) (b .before .args .w .now)) i
@@ -134,38 +86,14 @@ module _ (c : tie.After-d Inv-loop μ-loop) where
 least-of-requires : tie.Need-least-of-requires Inv-loop μ-loop
 least-of-requires c κs = four-words c
 
-parity-of-requires : tie.Need-parity-of-requires Inv-loop μ-loop
-parity-of-requires c κs = omega arith
-
 next-of-requires : tie.Need-next-of-requires Inv-loop μ-loop
 next-of-requires c κs = four-words (c .before .before)
 
 keep-sign-requires : tie.Need-keep-sign-requires Inv-loop μ-loop
 keep-sign-requires c κs = ap negative (back (c .next-of .ok) ∙ c .next-of .ensures)
 
-add-low : tie.Need-add-low Inv-loop μ-loop
-add-low c = omega arith
-
-mul-low : tie.Need-mul-low Inv-loop μ-loop
-mul-low c = omega arith
-
-slice-set-from-low : tie.Need-slice-set-from-low Inv-loop μ-loop
-slice-set-from-low c = omega arith
-
-add-high : tie.Need-add-high Inv-loop μ-loop
-add-high c = omega arith
-
-mul-high : tie.Need-mul-high Inv-loop μ-loop
-mul-high c = omega arith
-
 slice-set-from-high : tie.Need-slice-set-from-high Inv-loop μ-loop
 slice-set-from-high c = simp length-set (omega arith)
-
-add-k : tie.Need-add-k Inv-loop μ-loop
-add-k c = omega arith
-
-loop-less : tie.Need-loop-less Inv-loop μ-loop
-loop-less c = omega arith
 
 loop-again : tie.Need-loop-again Inv-loop μ-loop
 loop-again c =
@@ -199,35 +127,17 @@ fold-spec =
     (tie.spec
     Inv-loop
     μ-loop
-    add-n
-    add-x1
-    add-x2
-    add-x3
+    (λ c. omega arith) (λ c. omega arith) (λ c. omega arith) (λ c. omega arith)
     loop-holds
-    add-a
-    mul-a
-    slice-copy-out-a
-    add-b
-    mul-b
-    slice-copy-out-b
-    add-c
-    mul-c
-    slice-copy-out-c
-    add-d
-    mul-d
-    slice-copy-out-d
+    (λ c. omega arith) (λ c. omega arith) (λ c. omega arith) (λ c. omega arith) (λ c. omega arith) (λ c. omega arith)
+    (λ c. omega arith) (λ c. omega arith) (λ c. omega arith) (λ c. omega arith) (λ c. omega arith) (λ c. omega arith)
     least-of-requires
-    parity-of-requires
+    (λ c κs. omega arith)
     next-of-requires
     keep-sign-requires
-    add-low
-    mul-low
-    slice-set-from-low
-    add-high
-    mul-high
+    (λ c. omega arith) (λ c. omega arith) (λ c. omega arith) (λ c. omega arith) (λ c. omega arith)
     slice-set-from-high
-    add-k
-    loop-less
+    (λ c. omega arith) (λ c. omega arith)
     loop-again
     same-length
     returns)

@@ -9,81 +9,52 @@ use native.Mathlib.Omega.{arith}
 use lib.Signed.{ltZ}
 use mir.Val.{toZ, ofZ}
 use mir.Syntax.{w32}
-use Rattle.classes.proofs.Classes.{strided-skip, strided-step, strided-end, Gath, gath-none, gath-turn, gath-end}
 use Rattle.words.specs.Words.{xor, word}
 use Rattle.model.specs.Soft.{negative}
 use Rattle.words.proofs.Signed.{back, ltZ-zero}
 use Rattle.classes.specs.Sums.{strided}
+use Rattle.classes.proofs.Strided.{strided-skip, strided-step, strided-end}
+use Rattle.classes.proofs.LeastSizes.{Gath, gath-none, gath-turn, gath-end}
 use Rattle.classes.proofs.gather.Statement.{statement}
 use Rattle.classes.proofs.gather.Tie as tie
 
 abbrev Inv-loop : tie.InvT-loop
-Inv-loop l d c m1₀ m2₀ neg₀ i₀ m1 m2 neg i =
-    Gath m1 m2 neg (strided d 0 (drop i l)) (strided d c l)
+Inv-loop l p c m1₀ m2₀ neg₀ i₀ m1 m2 neg i =
+    Gath m1 m2 neg (strided p 0 (drop i l)) (strided p c l)
 
 abbrev μ-loop : tie.MeasureT-loop
-μ-loop l d c m1₀ m2₀ neg₀ i₀ m1 m2 neg i = length l - i
+μ-loop l p c m1₀ m2₀ neg₀ i₀ m1 m2 neg i = length l - i
 
 loop-holds : tie.Need-loop-holds Inv-loop μ-loop
-loop-holds c =
-    let e = strided-skip (c .args .d) (c .args .c) (c .args .l .now) in
-    rw e (gath-none _)
-
-mul-x : tie.Need-mul-x Inv-loop μ-loop
-mul-x c = omega arith
-
-shared-slice-copy-out-x : tie.Need-shared-slice-copy-out-x Inv-loop μ-loop
-shared-slice-copy-out-x c = omega arith
+loop-holds c = rw (strided-skip (c .args .p) (c .pre .0 .0) (c .args .c) (c .args .l .now)) (gath-none _)
 
 size-word-requires : tie.Need-size-word-requires Inv-loop μ-loop
 size-word-requires c κs = rw (back (c .x .given)) (c .before .before .before .pre .1 (c .before .before .loop .i))
 
-max-size-requires : tie.Need-max-size-requires Inv-loop μ-loop
-max-size-requires c κs = omega arith
-
-min-size-requires : tie.Need-min-size-requires Inv-loop μ-loop
-min-size-requires c κs = omega arith
-
-min-size-requires-2 : tie.Need-min-size-requires-2 Inv-loop μ-loop
-min-size-requires-2 c κs = omega arith
-
-add-i : tie.Need-add-i Inv-loop μ-loop
-add-i c = omega arith
-
-add-i-2 : tie.Need-add-i-2 Inv-loop μ-loop
-add-i-2 c = omega arith
-
-loop-less : tie.Need-loop-less Inv-loop μ-loop
-loop-less c = omega arith
-
--- the sizes after a turn
-size-is : (c : tie.After-size-word Inv-loop μ-loop) → c .size-word .result ≡ natAbs (word (c .before .before .before .before .args .l .now) (c .before .before .before .loop .i))
-size-is c = c .size-word .ensures ∙ ap natAbs (back {z = word (c .before .before .before .before .args .l .now) (c .before .before .before .loop .i)} (c .before .x .given))
-
-max-is : (c : tie.After-max-size Inv-loop μ-loop) → c .max-size .result ≡ max (natAbs (word (c .before .before .before .before .before .args .l .now) (c .before .before .before .before .loop .i))) (c .before .before .before .before .loop .m1)
-max-is c = c .max-size .ensures ∙ ap (λ (n : ℕ). max n (c .before .before .before .before .loop .m1)) (size-is (c .before))
-
 loop-again : tie.Need-loop-again Inv-loop μ-loop
 loop-again c =
-    let b = c .before .before .before .before .before .before in
-    let s = b .before in
-    let x = word (s .args .l .now) (b .loop .i) in
-    let rest = strided (s .args .d) 0 (drop (b .loop .i + (s .args .d + 1)) (s .args .l .now)) in
-    let whole = strided (s .args .d) (s .args .c) (s .args .l .now) in
+    let after-max = c .before .before in
+    let after-size = after-max .before in
+    let after-x = after-size .before in
+    let b = after-x .before .before in
+    let a = b .before .args in
+    let x = word (a .l .now) (b .loop .i) in
+    let rest = strided (a .p) 0 (drop (b .loop .i + a .p) (a .l .now)) in
+    let whole = strided (a .p) (a .c) (a .l .now) in
     let g : Gath (b .loop .m1) (b .loop .m2) (b .loop .neg) (x ∷ rest) whole =
-    subst (λ (r : List ℤ). Gath (b .loop .m1) (b .loop .m2) (b .loop .neg) r whole) (strided-step (s .args .d) (b .loop .i) (s .args .l .now) (pos 0) (c .before .before .before .before .before .loop-test .taken)) (b .loop .inv) in
-    let m1 = c .min-size2 .ensures ∙ ap (λ (n : ℕ). min n (b .loop .m1)) (size-is (c .before .before .before)) in
-    let m2 = c .before .min-size .ensures ∙ ap (min (b .loop .m2)) (max-is (c .before .before)) in
-    let n : not (Bool·beq (ltZ (toZ w32 (ofZ w32 x)) (pos 0)) (b .loop .neg)) ≡ xor (negative x) (b .loop .neg) = ap (λ (t : Bool). xor t (b .loop .neg)) (ltZ-zero (toZ w32 (ofZ w32 x)) ∙ ap negative (back {z = x} (c .before .before .before .before .x .given))) in
-    rw (m1, m2, n) (gath-turn (b .loop .m1) (b .loop .m2) (b .loop .neg) x rest whole g)
+    subst (λ (r : List ℤ). Gath (b .loop .m1) (b .loop .m2) (b .loop .neg) r whole) (strided-step (a .p) (b .before .pre .0 .0) (b .loop .i) (a .l .now) (pos 0) (after-x .before .loop-test .taken)) (b .loop .inv) in
+    let own = back {z = x} (after-x .x .given) in
+    let size : after-size .size-word .result ≡ natAbs x = after-size .size-word .ensures ∙ ap natAbs own in
+    let m1 = c .min-size2 .ensures ∙ ap (λ (n : ℕ). min n (b .loop .m1)) size in
+    let m2 = c .before .min-size .ensures ∙ ap (min (b .loop .m2)) (after-max .max-size .ensures ∙ ap (λ (n : ℕ). max n (b .loop .m1)) size) in
+    let n : not (Bool·beq (ltZ (toZ w32 (ofZ w32 x)) (pos 0)) (b .loop .neg)) ≡ xor (negative x) (b .loop .neg) = ap (λ (t : Bool). xor t (b .loop .neg)) (ltZ-zero (toZ w32 (ofZ w32 x)) ∙ ap negative own) in
+    rw (m1, m2, n) (gath-turn (b .loop .m1) (b .loop .m2) (b .loop .neg) x rest whole (b .before .pre .1 (b .loop .i)) g)
 
 returns : tie.Need-returns Inv-loop μ-loop
 returns c =
     let b = c .before in
     let s = b .before in
-    let whole = strided (s .args .d) (s .args .c) (s .args .l .now) in
-    gath-end (b .loop .m1) (b .loop .m2) (b .loop .neg) whole
-    (subst (λ (r : List ℤ). Gath (b .loop .m1) (b .loop .m2) (b .loop .neg) r whole) (strided-end (s .args .d) (b .loop .i) (s .args .l .now) (c .loop-test .left)) (b .loop .inv))
+    gath-end (b .loop .m1) (b .loop .m2) (b .loop .neg) _ (strided (s .args .p) (s .args .c) (s .args .l .now)) (strided-end (s .args .p) (s .pre .0 .0) (b .loop .i) (s .args .l .now) (c .loop-test .left)) (b .loop .inv)
 
 pub gather-spec : {M : Type 1} → statement M
 gather-spec =
@@ -92,14 +63,8 @@ gather-spec =
     Inv-loop
     μ-loop
     loop-holds
-    mul-x
-    shared-slice-copy-out-x
+    (λ c. omega arith) (λ c. omega arith)
     size-word-requires
-    max-size-requires
-    min-size-requires
-    min-size-requires-2
-    add-i
-    add-i-2
-    loop-less
+    (λ c κs. omega arith) (λ c κs. omega arith) (λ c κs. omega arith) (λ c. omega arith) (λ c. omega arith)
     loop-again
     returns)

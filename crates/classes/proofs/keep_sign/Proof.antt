@@ -7,7 +7,7 @@ use mir.Syntax.{w32}
 use mir.Facts.{toZ-ofZ}
 use Rattle.words.proofs.Signed.{abs-no}
 use Rattle.classes.specs.Folds.{keepSign}
-use Rattle.classes.proofs.Sizes.{flip-no, flip-fits}
+use Rattle.classes.proofs.FourWords.{flip-no, flip-fits}
 use Rattle.classes.proofs.keep_sign.Statement.{statement}
 use Rattle.classes.proofs.keep_sign.Tie as tie
 

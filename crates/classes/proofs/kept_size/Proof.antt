@@ -6,7 +6,7 @@ use mir.Val.{toZ, ofZ}
 use mir.Syntax.{w32}
 use mir.Facts.{toZ-ofZ}
 use Rattle.words.proofs.Signed.{ltZ-zero}
-use Rattle.classes.proofs.Sizes.{flip-yes, flip-fits, pos-fits, size-no}
+use Rattle.classes.proofs.FourWords.{flip-yes, flip-fits, pos-fits, size-no}
 use Rattle.classes.proofs.kept_size.Statement.{statement}
 use Rattle.classes.proofs.kept_size.Tie as tie
 

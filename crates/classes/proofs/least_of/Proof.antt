@@ -4,31 +4,10 @@ use native.Mathlib.Omega.{arith}
 use lib.IntN.{ℤ, pos, natAbs}
 use mir.Facts.{toZ-ofZ}
 use Rattle.words.proofs.Signed.{back}
-use Rattle.classes.proofs.Sizes.{min-is, least-of-four}
+use Rattle.classes.proofs.FourWords.{min-is, least-of-four}
 use borrow.Author.Needs.{needs}
 use Rattle.classes.proofs.least_of.Statement.{statement}
 use Rattle.classes.proofs.least_of.Tie as tie
-
-abs-word-requires : tie.Need-abs-word-requires
-abs-word-requires c κs = search needs
-
-abs-word-requires-2 : tie.Need-abs-word-requires-2
-abs-word-requires-2 c κs = search needs
-
-min-word-requires : tie.Need-min-word-requires
-min-word-requires c κs = omega arith
-
-abs-word-requires-3 : tie.Need-abs-word-requires-3
-abs-word-requires-3 c κs = search needs
-
-abs-word-requires-4 : tie.Need-abs-word-requires-4
-abs-word-requires-4 c κs = search needs
-
-min-word-requires-2 : tie.Need-min-word-requires-2
-min-word-requires-2 c κs = omega arith
-
-min-word-requires-3 : tie.Need-min-word-requires-3
-min-word-requires-3 c κs = omega arith
 
 returns : tie.Need-returns
 returns c =
@@ -45,11 +24,6 @@ pub least-of-spec : {M : Type 1} → statement M
 least-of-spec =
     tie.close
     (tie.spec
-    abs-word-requires
-    abs-word-requires-2
-    min-word-requires
-    abs-word-requires-3
-    abs-word-requires-4
-    min-word-requires-2
-    min-word-requires-3
+    (λ c κs. search needs) (λ c κs. search needs) (λ c κs. omega arith) (λ c κs. search needs) (λ c κs. search needs)
+    (λ c κs. omega arith) (λ c κs. omega arith)
     returns)

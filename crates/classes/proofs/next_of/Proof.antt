@@ -4,43 +4,10 @@ use native.Mathlib.Omega.{arith}
 use lib.IntN.{ℤ, pos, natAbs}
 use mir.Facts.{toZ-ofZ}
 use Rattle.words.proofs.Signed.{back}
-use Rattle.classes.proofs.Sizes.{min-is, max-is, next-of-four}
+use Rattle.classes.proofs.FourWords.{min-is, max-is, next-of-four}
 use borrow.Author.Needs.{needs}
 use Rattle.classes.proofs.next_of.Statement.{statement}
 use Rattle.classes.proofs.next_of.Tie as tie
-
-abs-word-requires : tie.Need-abs-word-requires
-abs-word-requires c κs = search needs
-
-abs-word-requires-2 : tie.Need-abs-word-requires-2
-abs-word-requires-2 c κs = search needs
-
-abs-word-requires-3 : tie.Need-abs-word-requires-3
-abs-word-requires-3 c κs = search needs
-
-abs-word-requires-4 : tie.Need-abs-word-requires-4
-abs-word-requires-4 c κs = search needs
-
-min-word-requires : tie.Need-min-word-requires
-min-word-requires c κs = omega arith
-
-min-word-requires-2 : tie.Need-min-word-requires-2
-min-word-requires-2 c κs = omega arith
-
-max-word-requires : tie.Need-max-word-requires
-max-word-requires c κs = omega arith
-
-max-word-requires-2 : tie.Need-max-word-requires-2
-max-word-requires-2 c κs = omega arith
-
-max-word-requires-3 : tie.Need-max-word-requires-3
-max-word-requires-3 c κs = omega arith
-
-min-word-requires-3 : tie.Need-min-word-requires-3
-min-word-requires-3 c κs = omega arith
-
-min-word-requires-4 : tie.Need-min-word-requires-4
-min-word-requires-4 c κs = omega arith
 
 returns : tie.Need-returns
 returns c =
@@ -61,15 +28,7 @@ pub next-of-spec : {M : Type 1} → statement M
 next-of-spec =
     tie.close
     (tie.spec
-    abs-word-requires
-    abs-word-requires-2
-    abs-word-requires-3
-    abs-word-requires-4
-    min-word-requires
-    min-word-requires-2
-    max-word-requires
-    max-word-requires-2
-    max-word-requires-3
-    min-word-requires-3
-    min-word-requires-4
+    (λ c κs. search needs) (λ c κs. search needs) (λ c κs. search needs) (λ c κs. search needs) (λ c κs. omega arith)
+    (λ c κs. omega arith) (λ c κs. omega arith) (λ c κs. omega arith) (λ c κs. omega arith) (λ c κs. omega arith)
+    (λ c κs. omega arith)
     returns)

@@ -1,7 +1,7 @@
 -- `classes::parity_of` meets its contract: its tests are those of the signs. Assumes nothing.
 use mir.Facts.{toZ-ofZ}
 use Rattle.words.proofs.Signed.{ltZ-zero}
-use Rattle.classes.proofs.Sizes.{parity-of-four}
+use Rattle.classes.proofs.FourWords.{parity-of-four}
 use Rattle.classes.proofs.parity_of.Statement.{statement}
 use Rattle.classes.proofs.parity_of.Tie as tie
 

@@ -1,37 +1,31 @@
 -- `extrinsic::leave_out` meets its contract: the size is picked by the test of the least size, and the sign is the product of the other signs. Assumes nothing.
 use mathlib.Core.Path.{_≡_, ap, ap₂, _∙_}
+use mathlib.Core.Bool.{Bool, cond}
 use Prim.Native.Nat.{ℕ, _≤_}
+use native.Mathlib.Omega.{arith}
 use lib.IntN.{ℤ, pos, natAbs, negℤ}
+use lib.Dec.{eqb}
 use mir.Val.{toZ, ofZ}
 use mir.Syntax.{w32}
-use mathlib.Core.Bool.{Bool, cond}
-use native.Mathlib.Omega.{arith}
-use lib.Dec.{eqb}
 use mir.Facts.{toZ-ofZ}
+use Rattle.model.specs.Soft.{mark, negative}
 use Rattle.model.proofs.Lists.{cond-both}
 use Rattle.words.specs.Words.{xor}
-use Rattle.model.specs.Soft.{mark, negative}
 use Rattle.words.proofs.Signed.{back, fits-word, ltZ-zero}
 use Rattle.words.proofs.Laws.{signed-is}
 use borrow.Author.Needs.{needs}
 use Rattle.extrinsic.proofs.leave_out.Statement.{statement}
 use Rattle.extrinsic.proofs.leave_out.Tie as tie
 
-size-word-requires : tie.Need-size-word-requires
-size-word-requires c κs = search needs
-
-pick-size-requires : tie.Need-pick-size-requires
-pick-size-requires c κs = omega arith
-
 -- the size, and its bound
-pick-is : (c : tie.After-pick-size) → c .pick-size .result ≡ cond (eqb (natAbs (c .before .before .args .x)) (c .before .before .args .m1)) (c .before .before .args .m2) (c .before .before .args .m1)
+pick-is : (c : tie.After-pick-size) → let a = c .before .before .args in c .pick-size .result ≡ cond (eqb (natAbs (a .x)) (a .g .least)) (a .g .next) (a .g .least)
 pick-is c =
     let s = c .before .before in
     c .pick-size .ensures
-    ∙ ap (λ (n : ℕ). cond (eqb n (s .args .m1)) (s .args .m2) (s .args .m1)) (c .before .size-word .ensures ∙ ap natAbs (toZ-ofZ (s .fits .x)))
+    ∙ ap (λ (n : ℕ). cond (eqb n (s .args .g .least)) (s .args .g .next) (s .args .g .least)) (c .before .size-word .ensures ∙ ap natAbs (toZ-ofZ (s .fits .x)))
 
 pick-le : (c : tie.After-pick-size) → c .pick-size .result ≤ mark
-pick-le c = let s = c .before .before in rw (pick-is c) (cond-both (λ n. n ≤ mark) (eqb (natAbs (s .args .x)) (s .args .m1)) (s .pre .1 .1) (s .pre .1 .0))
+pick-le c = let s = c .before .before in rw (pick-is c) (cond-both (λ n. n ≤ mark) (eqb (natAbs (s .args .x)) (s .args .g .least)) (s .pre .1 .1) (s .pre .1 .0))
 
 cast-with-sign : tie.Need-cast-with-sign
 cast-with-sign c = fits-word (pos (c .pick-size .result)) (pick-le c)
@@ -43,11 +37,10 @@ returns : tie.Need-returns
 returns c =
     let s = c .before .before .before in
     let m = toZ-ofZ (cast-with-sign (c .before)) ∙ ap pos (pick-is (c .before)) in
+    let g = s .args .g in
     back (c .with-sign .ok) ∙ c .with-sign .ensures
-    ∙ ap₂ (λ (t : Bool) (z : ℤ). cond t (negℤ z) z) (ap (xor (s .args .neg)) (ltZ-zero (toZ w32 (ofZ w32 (s .args .x))) ∙ ap negative (toZ-ofZ (s .fits .x)))) m
-    ∙ signed-is (xor (s .args .neg) (negative (s .args .x))) (cond (eqb (natAbs (s .args .x)) (s .args .m1)) (s .args .m2) (s .args .m1))
+    ∙ ap₂ (λ (t : Bool) (z : ℤ). cond t (negℤ z) z) (ap (xor (g .neg)) (ltZ-zero (toZ w32 (ofZ w32 (s .args .x))) ∙ ap negative (toZ-ofZ (s .fits .x)))) m
+    ∙ signed-is (xor (g .neg) (negative (s .args .x))) (cond (eqb (natAbs (s .args .x)) (g .least)) (g .next) (g .least))
 
 pub leave-out-spec : {M : Type 1} → statement M
-leave-out-spec =
-    tie.close
-    (tie.spec size-word-requires pick-size-requires cast-with-sign with-sign-requires returns)
+leave-out-spec = tie.close (tie.spec (λ c κs. search needs) (λ c κs. omega arith) cast-with-sign with-sign-requires returns)

@@ -1,104 +1,97 @@
--- `extrinsic::subtract` meets its contract. The loop's invariant: the first k differences are stored. Assumes nothing.
-use mathlib.Core.Path.{_≡_, refl, ap₂, _∙_}
-use mathlib.Core.Bool.{cond}
-use Prim.Native.Nat.{ℕ, _+_, _-_, _≤_}
+-- `extrinsic::subtract` meets its contract. The loop's invariant: the first k differences are stored, and k is a multiple of 4. Assumes nothing.
+use mathlib.Core.Path.{_≡_, refl, sym, ap, ap₂, _∙_, subst}
+use Prim.Native.Nat.{ℕ, _+_, _-_, _%_, _^_, _≤_, _<_}
 use native.Mathlib.Omega.{arith}
 use native.Mathlib.Nat.{le-antisymm}
 use lib.IntN.{ℤ, pos, _-ℤ_}
-use lib.ListN.{length, length-set}
-use mir.Val.{SFits, toZ, ofZ}
+use lib.ListN.{length}
+use lib.Signed.{mag}
+use mir.Val.{toZ, ofZ}
 use mir.Syntax.{w32}
-use mir.Facts.{toZ-ofZ}
-use Rattle.words.specs.Words.{word, write}
-use Rattle.extrinsic.specs.Values.{isOdd}
-use Rattle.words.proofs.Signed.{back, fits-word}
-use Rattle.words.proofs.Store.{store-none, store-more, source-above}
+use Rattle.words.specs.Words.{Word, word, write}
+use Rattle.words.proofs.Signed.{back}
+use Rattle.words.proofs.Store.{store-none}
+use Rattle.classes.specs.declared.Totals.{Totals}
+use Rattle.extrinsic.specs.Values.{totalAt}
+use Rattle.extrinsic.proofs.Fours.{at-place, value-is, four-stored}
 use Rattle.extrinsic.proofs.subtract.Statement.{statement}
 use Rattle.extrinsic.proofs.subtract.Tie as tie
 
+abbrev less : Totals → ℕ → ℤ → ℤ
+less t i v = totalAt t i -ℤ v
+
 abbrev Inv-loop : tie.InvT-loop
-Inv-loop w₀ m x s a b k₀ w k = (k ≤ s) × (w ≡ write w₀ m k (λ j. cond (isOdd j) (toZ w32 b) (toZ w32 a) -ℤ word w₀ (x + j))) × (length w ≡ length w₀)
+Inv-loop w₀ m x s t k₀ w k = (k ≤ s) × (k % 4 ≡ 0) × (w ≡ write w₀ m k (at-place (less t) w₀ x)) × (length w ≡ length w₀)
 
 abbrev μ-loop : tie.MeasureT-loop
-μ-loop w₀ m x s a b k₀ w k = s - k
+μ-loop w₀ m x s t k₀ w k = s - k
 
--- ---- what a turn stores: the sum without the place's own value
-from-is : (c : tie.After-pick-word Inv-loop μ-loop) → toZ w32 (ofZ w32 (c .pick-word .result)) ≡ cond (isOdd (c .before .before .loop .k)) (toZ w32 (ofZ w32 (c .before .before .before .args .b))) (toZ w32 (ofZ w32 (c .before .before .before .args .a)))
-from-is c = back (c .pick-word .ok) ∙ c .pick-word .ensures
+loop-holds : tie.Need-loop-holds Inv-loop μ-loop
+loop-holds c = (omega arith, refl, store-none (pos 0) _ _ _, refl)
 
-own-is : (c : tie.After-own Inv-loop μ-loop) → word (c .before .before .before .loop .w) (c .before .before .before .before .args .x + c .before .before .before .loop .k) ≡ word (c .before .before .before .before .args .w .now) (c .before .before .before .before .args .x + c .before .before .before .loop .k)
-own-is c =
-    let at-loop = c .before .before .before in
-    let a = at-loop .before .args in
-    let p = at-loop .before .pre .0 in
-    source-above (pos 0) (a .w .now) (at-loop .loop .w) (a .m) (at-loop .loop .k) (λ (j : ℕ). cond (isOdd j) (toZ w32 (ofZ w32 (a .b))) (toZ w32 (ofZ w32 (a .a))) -ℤ word (a .w .now) (a .x + j)) (a .x + at-loop .loop .k) (at-loop .loop .inv .1) (omega (arith, p))
+-- the difference, read back from bits
+less-is : (t v : ℤ) → mag t < 2 ^ 31 → mag v < 2 ^ 31 → toZ w32 (ofZ w32 t) -ℤ toZ w32 (ofZ w32 v) ≡ t -ℤ v
+less-is t v ht hv = ap₂ (λ (y z : ℤ). y -ℤ z) (back {z = t} ht) (back {z = v} hv)
 
-difference-is : (c : tie.After-own Inv-loop μ-loop) → let at-loop = c .before .before .before in let a = at-loop .before .args in
-    toZ w32 (ofZ w32 (c .before .pick-word .result)) -ℤ toZ w32 (ofZ w32 (word (at-loop .loop .w) (a .x + at-loop .loop .k))) ≡ cond (isOdd (at-loop .loop .k)) (toZ w32 (ofZ w32 (a .b))) (toZ w32 (ofZ w32 (a .a))) -ℤ word (a .w .now) (a .x + at-loop .loop .k)
-difference-is c = ap₂ (λ (y z : ℤ). y -ℤ z) (from-is (c .before)) (back (c .own .given) ∙ own-is c)
+-- the difference at place k + j is a word
+abbrev at-loop : tie.After-d Inv-loop μ-loop → tie.At-loop Inv-loop μ-loop
+at-loop d = d .before .before .before .before .before
 
-fits : (c : tie.After-own Inv-loop μ-loop) → let at-loop = c .before .before .before in let a = at-loop .before .args in
-    SFits w32 (toZ w32 (ofZ w32 (c .before .pick-word .result)) -ℤ toZ w32 (ofZ w32 (word (at-loop .loop .w) (a .x + at-loop .loop .k))))
-fits c =
-    let at-loop = c .before .before .before in
-    let s = at-loop .before in
-    rw (difference-is c, toZ-ofZ (s .fits .a), toZ-ofZ (s .fits .b)) (fits-word _ (s .pre .1 (at-loop .loop .k) (c .before .before .loop-test .taken)))
+abbrev place : tie.After-d Inv-loop μ-loop → ℕ
+place d = at-loop d .before .args .x + at-loop d .loop .k
+
+fits : (d : tie.After-d Inv-loop μ-loop) (i j : ℕ) → let l = at-loop d in let a = l .before .args in j < 4 → i ≡ a .x + (l .loop .k + j) → mag (totalAt (a .t) j) < 2 ^ 31 → mag (word (l .loop .w) i) < 2 ^ 31
+    → Word (toZ w32 (ofZ w32 (totalAt (a .t) j)) -ℤ toZ w32 (ofZ w32 (word (l .loop .w) i)))
+fits d i j lt e ht hv =
+    let l = at-loop d in
+    let a = l .before .args in
+    let p = l .before .pre .0 in
+    subst Word
+    (sym (less-is (totalAt (a .t) j) (word (l .loop .w) i) ht hv ∙ value-is (less (a .t)) (a .w .now) (l .loop .w) (a .m) (a .x) (l .loop .k) (l .loop .inv .2) (l .loop .inv .1) (omega arith) i j lt e))
+    (l .before .pre .1 (l .loop .k + j) (omega arith))
+
+sub-words-requires : tie.Need-sub-words-requires Inv-loop μ-loop
+sub-words-requires c κs = let d = c .before in fits d (place d) 0 (omega arith) (omega arith) (c .struct-told .given .0 .1) (d .before .before .before .a .given)
+
+sub-words-requires-2 : tie.Need-sub-words-requires-2 Inv-loop μ-loop
+sub-words-requires-2 c κs = let d = c .before .before .before in fits d (place d + 1) 1 (omega arith) (omega arith) (c .struct-told2 .given .1 .0 .1) (d .before .before .b .given)
+
+sub-words-requires-3 : tie.Need-sub-words-requires-3 Inv-loop μ-loop
+sub-words-requires-3 c κs = let d = c .before .before .before .before .before in fits d (place d + 2) 2 (omega arith) (omega arith) (c .struct-told3 .given .1 .1 .0 .1) (d .before .c .given)
+
+sub-words-requires-4 : tie.Need-sub-words-requires-4 Inv-loop μ-loop
+sub-words-requires-4 c κs = let d = c .before .before .before .before .before .before .before in fits d (place d + 3) 3 (omega arith) (omega arith) (c .struct-told4 .given .1 .1 .1 .0 .1) (d .d .given)
 
 loop-again : tie.Need-loop-again Inv-loop μ-loop
 loop-again c =
-    let at-loop = c .before .before .before in
-    let a = at-loop .before .args in (
-      omega arith,
-      store-more (pos 0) (a .w .now) (at-loop .loop .w) (a .m) (at-loop .loop .k) _ (λ (j : ℕ). cond (isOdd j) (toZ w32 (ofZ w32 (a .b))) (toZ w32 (ofZ w32 (a .a))) -ℤ word (a .w .now) (a .x + j)) (at-loop .loop .inv .1)
-          (toZ-ofZ (fits c) ∙ difference-is c),
-      simp length-set (at-loop .loop .inv .2),
+    let called = c .before in
+    let found4 = called .before .before in
+    let found3 = found4 .before .before in
+    let found2 = found3 .before .before in
+    let found1 = found2 .before .before in
+    let d = found1 .before .before in
+    let l = at-loop d in
+    let a = l .before .args in
+    let p = l .before .pre .0 in
+    let lt = d .before .before .before .before .loop-test .taken in
+    let e = l .loop .inv .1 in
+    let i = a .x + l .loop .k in (
+      omega (arith, lt, e, p .2),
+      omega (arith, e),
+      called .store-four .ensures
+          ∙ four-stored (less (a .t)) (a .w .now) (l .loop .w) (a .m) (a .x) (l .loop .k) (l .loop .inv .2) (l .loop .inv .1) (omega arith) _ _ _ _
+          (back (found1 .sub-words .ok) ∙ found1 .sub-words .ensures ∙ less-is (a .t .at0) (word (l .loop .w) i) (found1 .before .struct-told .given .0 .1) (d .before .before .before .a .given))
+          (back (found2 .sub-words2 .ok) ∙ found2 .sub-words2 .ensures ∙ less-is (a .t .at1) (word (l .loop .w) (i + 1)) (found2 .before .struct-told2 .given .1 .0 .1) (d .before .before .b .given))
+          (back (found3 .sub-words3 .ok) ∙ found3 .sub-words3 .ensures ∙ less-is (a .t .at2) (word (l .loop .w) (i + 2)) (found3 .before .struct-told3 .given .1 .1 .0 .1) (d .before .c .given))
+          (back (found4 .sub-words4 .ok) ∙ found4 .sub-words4 .ensures ∙ less-is (a .t .at3) (word (l .loop .w) (i + 3)) (found4 .before .struct-told4 .given .1 .1 .1 .0 .1) (d .d .given)),
+      called .store-four .kept .0 ∙ l .loop .inv .3,
     )
-
-loop-holds : tie.Need-loop-holds Inv-loop μ-loop
-loop-holds c =
-    (omega arith, store-none (pos 0) _ _ _, refl)
-
-pick-word-requires : tie.Need-pick-word-requires Inv-loop μ-loop
-pick-word-requires c κs = omega arith
-
-add-own : tie.Need-add-own Inv-loop μ-loop
-add-own c = omega arith
-
-mul-own : tie.Need-mul-own Inv-loop μ-loop
-mul-own c = omega arith
-
-slice-copy-out-own : tie.Need-slice-copy-out-own Inv-loop μ-loop
-slice-copy-out-own c = omega arith
-
-sub-v : tie.Need-sub-v Inv-loop μ-loop
-sub-v c = fits c
-
-add-v : tie.Need-add-v Inv-loop μ-loop
-add-v c = omega arith
-
-mul-v : tie.Need-mul-v Inv-loop μ-loop
-mul-v c = omega arith
-
-slice-set-from-v : tie.Need-slice-set-from-v Inv-loop μ-loop
-slice-set-from-v c = omega arith
-
-add-k : tie.Need-add-k Inv-loop μ-loop
-add-k c = omega arith
-
-loop-less : tie.Need-loop-less Inv-loop μ-loop
-loop-less c = omega arith
-
-same-length : tie.Need-same-length Inv-loop μ-loop
-same-length c =
-    c .before .loop .inv .2
 
 returns : tie.Need-returns Inv-loop μ-loop
 returns c =
-    let at-loop = c .before in
-    let s = at-loop .before in
-    let a = s .args in
-    at-loop .loop .inv .1
-    ∙ (λ i. write (a .w .now) (a .m) (le-antisymm (at-loop .loop .inv .0) (c .loop-test .left) i) (λ (j : ℕ). cond (isOdd j) (toZ-ofZ (s .fits .b) i) (toZ-ofZ (s .fits .a) i) -ℤ word (a .w .now) (a .x + j)))
+    let l = c .before in
+    let a = l .before .args in
+    l .loop .inv .2 ∙ ap (λ (n : ℕ). write (a .w .now) (a .m) n (at-place (less (a .t)) (a .w .now) (a .x))) (le-antisymm (l .loop .inv .0) (c .loop-test .left))
 
 pub subtract-spec : {M : Type 1} → statement M
 subtract-spec =
@@ -107,16 +100,13 @@ subtract-spec =
     Inv-loop
     μ-loop
     loop-holds
-    pick-word-requires
-    add-own
-    mul-own
-    slice-copy-out-own
-    sub-v
-    add-v
-    mul-v
-    slice-set-from-v
-    add-k
-    loop-less
+    (λ c. omega arith) (λ c. omega arith) (λ c. omega arith) (λ c. omega arith) (λ c. omega arith) (λ c. omega arith)
+    (λ c. omega arith) (λ c. omega arith) (λ c. omega arith) (λ c. omega arith) (λ c. omega arith) (λ c. omega arith)
+    sub-words-requires
+    sub-words-requires-2
+    sub-words-requires-3
+    sub-words-requires-4
+    (λ c. omega arith) (λ c κs. omega arith) (λ c. omega arith) (λ c. omega arith)
     loop-again
-    same-length
+    (λ c. omega arith)
     returns)

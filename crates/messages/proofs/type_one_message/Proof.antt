@@ -1,99 +1,13 @@
--- `messages::type_one_message` meets its contract: the sum over a class of places without the own value is the sum of the others. Assumes nothing.
-use mathlib.Core.Path.{_≡_, ap₂, _∙_}
-use mathlib.Core.Bool.{cond}
-use Prim.Native.Nat.{ℕ, _+_}
-use native.Mathlib.Nat.{le-trans}
+-- `messages::type_one_message` meets its contract: that is the message by the period 2. Assumes nothing.
 use native.Mathlib.Omega.{arith}
-use lib.IntN.{ℤ, pos, _-ℤ_}
-use mir.Val.{toZ, ofZ}
-use mir.Syntax.{w32}
-use Rattle.words.specs.Words.{word, write}
-use Rattle.classes.specs.Sums.{strided, sumZ}
-use Rattle.extrinsic.specs.Values.{isOdd}
-use Rattle.words.proofs.Signed.{back}
-use Rattle.words.proofs.Store.{write-ext}
-use Rattle.messages.proofs.Without.{sizes-strided}
-use Rattle.messages.proofs.Messages.{partOf, part-sizes, one-value, one-fits}
+use Rattle.model.specs.Kinds.{shortcut}
+use Rattle.messages.proofs.Sizes.{fours}
 use Rattle.messages.proofs.type_one_message.Statement.{statement}
 use Rattle.messages.proofs.type_one_message.Tie as tie
 
-add-e : tie.Need-add-e
-add-e c = omega arith
-
-mul-class-sum : tie.Need-mul-class-sum
-mul-class-sum c = omega arith
-
-sub-class-sum : tie.Need-sub-class-sum
-sub-class-sum c = omega arith
-
-part-class-sum-start : tie.Need-part-class-sum-start
-part-class-sum-start c = omega arith
-
-part-class-sum-end : tie.Need-part-class-sum-end
-part-class-sum-end c = omega arith
-
-class-sum-requires : tie.Need-class-sum-requires
-class-sum-requires c κs =
-    let s = c .before .before in
-    let a = s .args in
-    (omega arith, le-trans (sizes-strided _ _ _) (part-sizes (a .w .now) (a .x) (a .s) (s .pre .0 .1) (s .pre .1)))
-
-mul-class-sum-2 : tie.Need-mul-class-sum-2
-mul-class-sum-2 c = omega arith
-
-sub-class-sum-2 : tie.Need-sub-class-sum-2
-sub-class-sum-2 c = omega arith
-
-part-class-sum-start-2 : tie.Need-part-class-sum-start-2
-part-class-sum-start-2 c = omega arith
-
-part-class-sum-end-2 : tie.Need-part-class-sum-end-2
-part-class-sum-end-2 c = omega arith
-
-class-sum-requires-2 : tie.Need-class-sum-requires-2
-class-sum-requires-2 c κs =
-    let s = c .before .before .before .before .before in
-    let a = s .args in
-    (omega arith, le-trans (sizes-strided _ _ _) (part-sizes (a .w .now) (a .x) (a .s) (s .pre .0 .1) (s .pre .1)))
-
-even-is : (c : tie.After-class-sum) → let a = c .before .before .before .args in toZ w32 (ofZ w32 (c .class-sum .result)) ≡ sumZ (strided 1 0 (partOf (a .w .now) (a .x) (a .s)))
-even-is c = back (c .class-sum .ok) ∙ c .class-sum .ensures
-
-odd-is : (c : tie.After-class-sum2) → let a = c .before .before .before .before .before .before .args in toZ w32 (ofZ w32 (c .class-sum2 .result)) ≡ sumZ (strided 1 1 (partOf (a .w .now) (a .x) (a .s)))
-odd-is c = back (c .class-sum2 .ok) ∙ c .class-sum2 .ensures
-
-subtract-requires : tie.Need-subtract-requires
-subtract-requires c κs =
-    let s = c .before .before .before .before .before .before .before in
-    let a = s .args in
-    (s .pre .0, λ k h. rw (even-is (c .before .before .before .before), odd-is (c .before)) (one-fits (a .w .now) (a .x) (a .s) (s .pre .0 .1) (s .pre .1) k h))
-
-same-length : tie.Need-same-length
-same-length c = omega arith
-
 returns : tie.Need-returns
-returns c =
-    let s = c .before .before .before .before .before .before .before .before .before in
-    let a = s .args in
-    c .before .subtract .ensures
-    ∙ ap₂ (λ (t u : ℤ). write (a .w .now) (a .m) (a .s) (λ (k : ℕ). cond (isOdd k) u t -ℤ word (a .w .now) (a .x + k))) (even-is (c .before .before .before .before .before .before)) (odd-is (c .before .before .before))
-    ∙ write-ext (pos 0) (a .w .now) (a .m) (a .s) _ _ (one-value (a .w .now) (a .x) (a .s) (s .pre .0 .1) (s .pre .1))
+unfolding shortcut
+returns c = c .before .sum-message .ensures
 
 pub type-one-message-spec : {M : Type 1} → statement M
-type-one-message-spec =
-    tie.close
-    (tie.spec
-    add-e
-    mul-class-sum
-    sub-class-sum
-    part-class-sum-start
-    part-class-sum-end
-    class-sum-requires
-    mul-class-sum-2
-    sub-class-sum-2
-    part-class-sum-start-2
-    part-class-sum-end-2
-    class-sum-requires-2
-    subtract-requires
-    same-length
-    returns)
+type-one-message-spec = tie.close (tie.spec (λ c κs. let s = c .before in let p = s .pre .0 in ((p .0, p .1, omega arith, omega arith, fours (s .pre .1 .0)), s .pre .1 .1)) (λ c. omega arith) returns)

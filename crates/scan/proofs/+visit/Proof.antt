@@ -19,7 +19,8 @@ use Rattle.model.specs.Soft.{mark}
 use Rattle.words.specs.Words.{write}
 use Rattle.scan.specs.Space.{part, Visited}
 use Rattle.kinds.proofs.Runs.{kind-part}
-use Rattle.messages.specs.Cut.{cutWords}
+use Rattle.messages.specs.Cut.{cutWords, Sized, leastOf}
+use Rattle.messages.proofs.Sizes.{kind-sized}
 use Rattle.scan.proofs.Nodes.{Numbers, numbers-of, inside}
 use Rattle.model.proofs.Paths.{wellCut-cut}
 use Rattle.scan.proofs.Runs.{Run, AfterLeft, AfterRight, LeftDone, RightDone, no-list, a-list, run}
@@ -103,7 +104,10 @@ module _ (t : ℕ) where
       let a = start .args in
       let room = start .pre .1 in (
         (omega arith, omega arith),
-        λ q. incoming room (ap (λ (x : Bool). x && isRate01 (kindOf (2 ^ a .stage) (part (a .mask .now) (a .from) (a .stage)))) (is-cut (c .before .before .before)) ∙ sym (ap isRate01 (c .before .cut-kind .ensures ∙ kind-part (a .mask .now) (a .from) (a .size) (room .masked) ∙ kind-stage (a .mask .now) (a .from) (a .size) (a .stage) (room .size))) ∙ q),
+        (
+          subst (λ (o : Option Kind). Sized (leastOf o) (a .size)) (sym (c .before .cut-kind .ensures ∙ kind-part (a .mask .now) (a .from) (a .size) (room .masked))) (kind-sized (a .size) (a .stage) _ (room .size)),
+          λ q. incoming room (ap (λ (x : Bool). x && isRate01 (kindOf (2 ^ a .stage) (part (a .mask .now) (a .from) (a .stage)))) (is-cut (c .before .before .before)) ∙ sym (ap isRate01 (c .before .cut-kind .ensures ∙ kind-part (a .mask .now) (a .from) (a .size) (room .masked) ∙ kind-stage (a .mask .now) (a .from) (a .size) (a .stage) (room .size))) ∙ q),
+        ),
       )
 
   visit-returns : visit-lts.Need-returns (around t) (visit-at t) visit.Post

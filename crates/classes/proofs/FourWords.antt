@@ -13,9 +13,9 @@ use mir.Val.{SFits, Fits}
 use borrow.Author.Tests.{ltb-true, ltb-false, le-ltb}
 use Rattle.model.specs.Soft.{mark, negative}
 use Rattle.words.specs.Words.{xor, Word}
-use Rattle.classes.specs.Sums.{least, next, parity}
+use Rattle.classes.specs.LeastSizes.{least, next, parity}
 use Rattle.classes.specs.Folds.{fourList, keepSign}
-use Rattle.classes.proofs.Classes.{either, xor-assoc, xor-false}
+use Rattle.classes.proofs.LeastSizes.{either, xor-assoc, xor-false}
 
 -- ---- the smaller and the larger of two sizes
 pub min-is : {a b : ℤ} {m n : ℕ} → a ≡ pos m → b ≡ pos n → cond (ltZ a b) a b ≡ pos (min m n)
