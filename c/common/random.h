@@ -1,4 +1,4 @@
-/* A small repeatable random generator (splitmix64), for the example, the test and simulations. Link with -lm. */
+/* A small repeatable random generator (splitmix64), for tests and simulations. Link with -lm. */
 #ifndef RANDOM_H
 #define RANDOM_H
 

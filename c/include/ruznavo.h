@@ -1,7 +1,7 @@
 /*
  * Ruznavo from C: min-sum SCAN decoding of polar codes with shortcut nodes.
  *
- * `rt staticlib host` writes target/staticlib/libhost.a (x86-64, System V calling convention). It needs memcpy and
+ * `rt staticlib ruznavo` writes target/staticlib/libruznavo.a (x86-64, System V calling convention). It needs memcpy and
  * memset of the C library and nothing else. It has no static data, allocates nothing, makes no system call and always
  * returns, so calls may run on several threads at once as long as they do not share a buffer that one of them writes.
  *
@@ -29,7 +29,7 @@
  * accepted. A refused call answers its number with every other result 0 and leaves every buffer as it was, the
  * workspace too. If several causes apply, the lowest number of those that the call tests is answered.
  *
- * Stack. At N = 1024 the decoder used 4.4 KB, planner and plan check 1.8 KB each, the others 0.1 KB. host/stack.c
+ * Stack. At N = 1024 the decoder used 4.4 KB, planner and plan check 1.8 KB each, the others 0.1 KB. c/test/stack.c
  * measures this; take its figures for the library that you link.
  */
 #ifndef RUZNAVO_H

@@ -13,7 +13,7 @@ use Rattle.model.specs.Plans.{isPlan, oneCut, cutsOfKinds, Allowed, cycles, pla
 use Rattle.model.specs.Refusals.{refusal, exponent, planNumber, planBytes, planCounts, checkNumber, checkCycles}
 use Rattle.model.proofs.Lists.{T-true}
 use Rattle.planner.proofs.Results.{passed, front, planner-result}
-use Rattle.host.specs.Answers.{PlanAnswer, planCycles, hostCounts}
+use Rattle.ruznavo.specs.Answers.{PlanAnswer, planCycles, hostCounts}
 
 -- the check of an allowed plan gives its cycles
 allowed-cycles : (mask plan : List ℕ) → (exponent (length mask) ≡ 0 → ⊥) → atMost maxMask mask ≡ true → Allowed (exponent (length mask)) plan mask

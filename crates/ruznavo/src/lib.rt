@@ -13,7 +13,7 @@ ghost use Rattle.model.specs.Refusals.{samplesNumber, samplesLlrs, encodeNumber
 ghost use Rattle.samples.specs.Cases as converted;
 ghost use Rattle.encode.specs.Answers as encoded;
 ghost use Rattle.decode.specs.Calls.{callOf, Written};
-ghost use Rattle.host.specs.Answers.{CheckAnswer, PlanAnswer, hostCounts, DecodeAnswer};
+ghost use Rattle.ruznavo.specs.Answers.{CheckAnswer, PlanAnswer, hostCounts, DecodeAnswer};
 
 // The number of the samples call's answer.
 fn converted_number(c: Converted) -> u64

@@ -1,4 +1,4 @@
--- `host::ruznavo_plan` meets its contract: the planner's call, then the check of the plan that it left. Assumes nothing.
+-- `ruznavo::ruznavo_plan` meets its contract: the planner's call, then the check of the plan that it left. Assumes nothing.
 use Prim.Native.Nat.{ℕ, _*_, _≤_}
 use mathlib.Core.Path.{_≡_, sym, _∙_}
 use mathlib.Core.List.{List}
@@ -7,9 +7,9 @@ use borrow.Author.Needs.{needs}
 use lib.ListN.{length}
 use lib.Seq.{length-take-le}
 use Rattle.model.specs.Refusals.{planNumber}
-use Rattle.host.proofs.Planner.{refused, enough, answered, counted}
-use Rattle.host.proofs.ruznavo_plan.Statement.{statement}
-use Rattle.host.proofs.ruznavo_plan.Tie as tie
+use Rattle.ruznavo.proofs.Planner.{refused, enough, answered, counted}
+use Rattle.ruznavo.proofs.ruznavo_plan.Statement.{statement}
+use Rattle.ruznavo.proofs.ruznavo_plan.Tie as tie
 
 plan-mask-requires : tie.Need-plan-mask-requires
 plan-mask-requires c κs = search needs
