@@ -9,7 +9,7 @@
 
 enum { MAX_N = 1024, MAX_STAGE = 10 };
 
-// The mask of the code of length n with k unfrozen positions: that of an erasure channel of rate 1/2 (host/codes.h).
+// The mask of the code of length n with k unfrozen positions: that of an erasure channel of rate 1/2 (c/common/codes.h).
 void make_mask(uint8_t *mask, size_t n, size_t k);
 
 // The noise variance of a sample at Eb/N0, for sent samples of +1 and -1 and k payload bits in n samples.

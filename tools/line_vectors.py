@@ -8,7 +8,7 @@ With the number of a case it prints that case's input instead, for target/bin/po
 
 A line of the file is one of these:
   # TEXT               nothing
-  NAME|INPUT|ANSWER    a case; \\n is a line feed, \\xHH a byte, \\(COUNT)TEXT; the text so many times
+  NAME|INPUT|ANSWER    a case; \\n is a line feed, \\xHH a byte, \\(COUNT)TEXT; the text so many times (hexadecimal)
   = NAME               ends a group of cases"""
 import random
 import re
@@ -156,7 +156,7 @@ def escaped(data):
         if not unit:
             return ''.join(map(spelled, text))
         assert re.fullmatch(rb'[ 0-9a-z-]+', unit)
-        return f'\\({len(text) // len(unit)}){unit.decode()};'
+        return f'\\({len(text) // len(unit):x}){unit.decode()};'
     return ''.join(part(match) for match in re.finditer(rb'(.{1,16}?)\1{15,}|.', data, re.S))
 
 

@@ -122,7 +122,7 @@ pub struct Word {
     pub word: Bytes,
 }
 
-pub fn is_done(answer: Encoded) -> bool {
+fn is_done(answer: Encoded) -> bool {
     match answer {
         Encoded::Done => true,
         Encoded::BadLength => false,

@@ -9,11 +9,12 @@ mod frames;
 mod refusals;
 
 use reference::cases::Case;
+use test_tools::numbers::case_seed;
 use test_tools::numbers::length_of;
 use test_tools::numbers::one_if;
-use test_tools::numbers::seed_of;
 use test_tools::report::end_line;
 use test_tools::report::print_number;
+use test_tools::report::print_values;
 use test_tools::report::report;
 ghost use Prim.Native.Nat.{_≤_};
 
@@ -41,10 +42,6 @@ const PLANNER_FAULTS: usize = 9;
 const LENGTHS: usize = 10;
 
 // ---- a case by its group, its stage and its index
-
-fn seed(group: usize, stage: usize, i: usize) -> u32 {
-    seed_of((group % 16 * 16 + stage % 16) as u32, (i % 1048576) as u32)
-}
 
 // Each style of mask and plan in turn, with drawn sweeps.
 fn drawn_case(stage: usize, i: usize, llrs: usize, seed: u32) -> Case {
@@ -87,7 +84,7 @@ fn kind_case(stage: usize, i: usize, seed: u32) -> Case {
 
 // The case of a group of accepted calls.
 fn case_of(group: usize, stage: usize, i: usize) -> Case {
-    let seed = seed(group, stage, i);
+    let seed = case_seed(group, stage, i);
     match group {
         1 => mask_case(stage, i, seed),
         3 => kind_case(stage, i, seed),
@@ -117,7 +114,7 @@ fn variant_of(group: usize, i: usize, seed: u32) -> usize {
 }
 
 fn refusal_right(group: usize, stage: usize, i: usize) -> bool {
-    let seed = seed(group, stage, i);
+    let seed = case_seed(group, stage, i);
     let faults = faults_of(group, i);
     let variant = variant_of(group, i, seed);
     match group {
@@ -134,7 +131,7 @@ fn right(group: usize, stage: usize, i: usize) -> bool {
         1 | 2 | 3 => accepted::decode_case(case_of(group, stage, i)),
         4 => accepted::sign_case(case_of(group, stage, i)),
         5 => accepted::plan_case(case_of(group, stage, i)),
-        10 => refusals::length_case(i % 2056, seed(group, stage, i)),
+        10 => refusals::length_case(i % 2056, case_seed(group, stage, i)),
         _ => refusal_right(group, stage, i),
     }
 }
@@ -142,29 +139,27 @@ fn right(group: usize, stage: usize, i: usize) -> bool {
 // ---- what is printed
 
 fn print_case(c: Case) {
-    print_number(b", mask ", c.mask);
-    print_number(b", detail ", c.detail);
-    print_number(b", plan ", c.plan);
-    print_number(b", LLRs ", c.llrs);
-    print_number(b", sweeps ", c.sweeps);
+    print_values(
+        b", mask |, detail |, plan |, LLRs |, sweeps ",
+        [c.mask, c.detail, c.plan, c.llrs, c.sweeps, 0, 0, 0],
+    );
 }
 
-fn print_faults(group: usize, i: usize, seed: u32) {
-    print_number(b", faults ", faults_of(group, i));
-    print_number(b", variant ", variant_of(group, i, seed));
+fn print_faults(faults: usize, variant: usize) {
+    print_values(b", faults |, variant ", [faults, variant, 0, 0, 0, 0, 0, 0]);
 }
 
 fn print_mismatch(group: usize, stage: usize, i: usize) {
-    let seed = seed(group, stage, i);
-    print_number(b"mismatch: group ", group);
-    print_number(b", stage ", stage);
-    print_number(b", index ", i);
+    let seed = case_seed(group, stage, i);
+    print_values(
+        b"mismatch: group |, stage |, index |, seed ",
+        [group, stage, i, seed as usize, 0, 0, 0, 0],
+    );
     match group {
         1 | 2 | 3 | 4 | 5 => print_case(case_of(group, stage, i)),
-        6 | 7 | 8 | 9 => print_faults(group, i, seed),
+        6 | 7 | 8 | 9 => print_faults(faults_of(group, i), variant_of(group, i, seed)),
         _ => {}
     }
-    print_number(b", seed ", seed as usize);
     end_line();
 }
 
@@ -191,8 +186,17 @@ fn count_right(group: usize, stage: usize, count: usize) -> usize
     sum
 }
 
+fn report_line(group: usize, right: usize, all: usize) {
+    report(
+        b"frames: |every mask to N 8: | drawn cases |kinds at every size: |encoded words: |changed plans: |decode, one or two faults: |decode, sets of faults: |check, sets of faults: |planner, sets of faults: |lengths of the mask: ",
+        group,
+        right,
+        all,
+    );
+}
+
 // A group with the same number of cases for each N to 2 ^ stages.
-fn report_group(name: &[u8], group: usize, stages: usize, count: usize)
+fn report_group(group: usize, stages: usize, count: usize)
     requires { ⌜ (stages ≤ 10) × (count ≤ 65536) ⌝ }
 {
     let mut sum = 0;
@@ -203,7 +207,7 @@ fn report_group(name: &[u8], group: usize, stages: usize, count: usize)
         all += count;
         stage += 1;
     }
-    report(name, sum, all);
+    report_line(group, sum, all);
 }
 
 // Fewer cases for the largest N.
@@ -224,21 +228,21 @@ fn report_drawn() {
     while stage <= 10 {
         let count = drawn_count(stage);
         print_number(b"N ", length_of(stage));
-        report(b" drawn cases ", count_right(DRAWN, stage, count), count);
+        report_line(DRAWN, count_right(DRAWN, stage, count), count);
         stage += 1;
     }
 }
 
 fn main() {
-    report_group(b"frames: ", FRAMES, 1, 9);
-    report_group(b"every mask to N 8: ", EVERY_MASK, 3, 8192);
+    report_group(FRAMES, 1, 8);
+    report_group(EVERY_MASK, 3, 8192);
     report_drawn();
-    report_group(b"kinds at every size: ", KINDS, 10, 528);
-    report_group(b"encoded words: ", SIGNS, 10, 512);
-    report_group(b"changed plans: ", CHANGED_PLANS, 10, 512);
-    report_group(b"decode, one or two faults: ", TWO_FAULTS, 10, 1452);
-    report_group(b"decode, sets of faults: ", FAULTS, 10, 2048);
-    report_group(b"check, sets of faults: ", CHECK_FAULTS, 10, 192);
-    report_group(b"planner, sets of faults: ", PLANNER_FAULTS, 10, 96);
-    report_group(b"lengths of the mask: ", LENGTHS, 1, 2056);
+    report_group(KINDS, 10, 528);
+    report_group(SIGNS, 10, 512);
+    report_group(CHANGED_PLANS, 10, 512);
+    report_group(TWO_FAULTS, 10, 1452);
+    report_group(FAULTS, 10, 2048);
+    report_group(CHECK_FAULTS, 10, 192);
+    report_group(PLANNER_FAULTS, 10, 96);
+    report_group(LENGTHS, 1, 2056);
 }

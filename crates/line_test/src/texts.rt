@@ -1,45 +1,53 @@
-// The texts of the file of cases, in which \n is a line feed, \xHH a byte, and \(COUNT)TEXT; the text so many times.
-use crate::buffers::byte;
-use crate::buffers::find;
-use crate::buffers::part;
-use crate::buffers::put;
-use crate::buffers::put_times;
+// The texts of the file of cases, in which \n is a line feed, \xHH a byte, and \(COUNT)TEXT; the text so many times, with a hexadecimal
+// count.
+use test_tools::buffers::byte_at;
+use test_tools::texts::find;
+use test_tools::texts::number;
+use test_tools::texts::part;
 ghost use Prim.Native.Nat.{_+_, _<_, _≤_};
 ghost use lib.ListN.{length};
 
-// The value of a hexadecimal digit.
-fn digit(b: u8) -> u8
-    ensures { λ r. ⌜ r ≤ 15 ⌝ }
-{
-    match b {
-        b'0'..=b'9' => b - b'0',
-        b'a'..=b'f' => b - b'a' + 10,
-        _ => 0,
+// Stores a byte, if there is room, and answers the place behind it.
+fn put(s: &mut [u8], at: usize, b: u8) -> usize {
+    if at < s.len() {
+        s[at] = b;
+        return at + 1;
     }
+    at
 }
 
-// The byte of two digits.
-fn hexadecimal(s: &[u8], at: usize) -> u8
-    requires { ⌜ at ≤ length (now s) + 1 ⌝ }
-{
-    16 * digit(byte(s, at)) + digit(byte(s, at + 1))
-}
-
-// A decimal number below 100000.
-fn number(s: &[u8]) -> usize {
-    let mut n = 0;
+pub fn put_all(s: &mut [u8], from: usize, text: &[u8]) -> usize {
+    let mut at = from;
     let mut i = 0;
-    while i < s.len() {
-        n = n % 10000 * 10 + digit(s[i]) as usize;
+    while i < text.len() {
+        at = put(s, at, byte_at(text, i));
         i += 1;
     }
-    n
+    at
+}
+
+// Stores a text so many times.
+fn put_times(s: &mut [u8], from: usize, text: &[u8], count: u32) -> usize {
+    let mut at = from;
+    let mut i = 0;
+    while i < count {
+        at = put_all(s, at, text);
+        i += 1;
+    }
+    at
 }
 
 // Where the next byte goes, and where the rest of the file's text begins.
 struct Places {
     end: usize,
     rest: usize,
+}
+
+// The byte of two digits.
+fn hexadecimal(s: &[u8], at: usize) -> u8
+    requires { ⌜ at ≤ length (now s) + 1 ⌝ }
+{
+    (number(part(s, at, at + 2)) % 256) as u8
 }
 
 // \(COUNT)TEXT; from its count on.
@@ -65,6 +73,18 @@ fn put_byte(out: &mut [u8], n: usize, b: u8, rest: usize) -> Places
     }
 }
 
+// What a backslash and the byte at a place stand for.
+fn put_escaped(s: &[u8], at: usize, out: &mut [u8], n: usize) -> Places
+    requires { ⌜ at ≤ length (now s) ⌝ }
+    ensures { λ r. ⌜ at < r .rest ⌝ }
+{
+    match byte_at(s, at) {
+        b'n' => put_byte(out, n, b'\n', at + 1),
+        b'x' => put_byte(out, n, hexadecimal(s, at + 1), at + 3),
+        _ => put_repeated(s, at + 1, out, n),
+    }
+}
+
 // What stands at a place of the file's text.
 fn put_next(s: &[u8], at: usize, out: &mut [u8], n: usize) -> Places
     requires { ⌜ at < length (now s) ⌝ }
@@ -74,11 +94,7 @@ fn put_next(s: &[u8], at: usize, out: &mut [u8], n: usize) -> Places
     if b != b'\\' {
         return put_byte(out, n, b, at + 1);
     }
-    match byte(s, at + 1) {
-        b'n' => put_byte(out, n, b'\n', at + 2),
-        b'x' => put_byte(out, n, hexadecimal(s, at + 2), at + 4),
-        _ => put_repeated(s, at + 2, out, n),
-    }
+    put_escaped(s, at + 1, out, n)
 }
 
 // The bytes that a text of the file stands for; answers how many.

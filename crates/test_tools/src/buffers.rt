@@ -57,7 +57,15 @@ pub fn shorts(s: &[i16], n: usize) -> &[i16] {
     if n <= s.len() { &s[0..n] } else { s }
 }
 
+pub fn floats(s: &[f32], n: usize) -> &[f32] {
+    if n <= s.len() { &s[0..n] } else { s }
+}
+
 pub fn lent_bytes(s: &mut [u8], n: usize) -> &mut [u8] {
+    if n <= s.len() { &mut s[0..n] } else { s }
+}
+
+pub fn lent_shorts(s: &mut [i16], n: usize) -> &mut [i16] {
     if n <= s.len() { &mut s[0..n] } else { s }
 }
 

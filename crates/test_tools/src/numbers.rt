@@ -77,6 +77,11 @@ pub fn next(x: u32) -> u32 {
 }
 
 // A seed of its own for each pair of small numbers.
-pub fn seed_of(a: u32, b: u32) -> u32 {
+fn seed_of(a: u32, b: u32) -> u32 {
     next(next(next(next(2463534242 ^ (a << 20)) ^ b)))
+}
+
+// The seed of case i of a group at a stage.
+pub fn case_seed(group: usize, stage: usize, i: usize) -> u32 {
+    seed_of((group % 16 * 16 + stage % 16) as u32, (i % 1048576) as u32)
 }

@@ -5,10 +5,10 @@ use Rattle.decode_test.proofs.report_drawn.Statement.{statement}
 use Rattle.decode_test.proofs.report_drawn.Tie as tie
 
 abbrev Inv-loop : tie.InvT-loop
-Inv-loop stage₀ t3 t4 stage = (1 ≤ stage) × (stage ≤ 11)
+Inv-loop stage₀ t3 stage = (1 ≤ stage) × (stage ≤ 11)
 
 abbrev μ-loop : tie.MeasureT-loop
-μ-loop stage₀ t3 t4 stage = 11 - stage
+μ-loop stage₀ t3 stage = 11 - stage
 
 loop-holds : tie.Need-loop-holds Inv-loop μ-loop
 loop-holds c = search needs
@@ -25,14 +25,11 @@ length-of-requires c κs = search needs
 print-number-requires : tie.Need-print-number-requires Inv-loop μ-loop
 print-number-requires c κs = search needs
 
-slice-aggregate-report : tie.Need-slice-aggregate-report Inv-loop μ-loop
-slice-aggregate-report c = search needs
-
 count-right-requires : tie.Need-count-right-requires Inv-loop μ-loop
 count-right-requires c κs = search needs
 
-report-requires : tie.Need-report-requires Inv-loop μ-loop
-report-requires c κs = search needs
+report-line-requires : tie.Need-report-line-requires Inv-loop μ-loop
+report-line-requires c κs = search needs
 
 add-stage : tie.Need-add-stage Inv-loop μ-loop
 add-stage c = search needs
@@ -57,9 +54,8 @@ report-drawn-spec =
     slice-aggregate-print-number
     length-of-requires
     print-number-requires
-    slice-aggregate-report
     count-right-requires
-    report-requires
+    report-line-requires
     add-stage
     loop-less
     loop-again

@@ -1,14 +1,14 @@
--- `decode_test::report_group` is safe and ends. The loop's invariant: at most 65536 cases for each N passed. Assumes nothing.
+-- `decode_test::report_group` is safe and ends. The loop's invariant: the sums are at most 65536 for each stage. Assumes nothing.
 use Prim.Native.Nat.{_+_, _-_, _*_, _≤_}
 use borrow.Author.Needs.{needs}
 use Rattle.decode_test.proofs.report_group.Statement.{statement}
 use Rattle.decode_test.proofs.report_group.Tie as tie
 
 abbrev Inv-loop : tie.InvT-loop
-Inv-loop name group stages count sum₀ all₀ stage₀ sum all stage = (1 ≤ stage) × (stage ≤ stages + 1) × (sum ≤ 65536 * stage) × (all ≤ 65536 * stage)
+Inv-loop group stages count sum₀ all₀ stage₀ sum all stage = (1 ≤ stage) × (stage ≤ stages + 1) × (sum ≤ 65536 * stage) × (all ≤ 65536 * stage)
 
 abbrev μ-loop : tie.MeasureT-loop
-μ-loop name group stages count sum₀ all₀ stage₀ sum all stage = stages + 1 - stage
+μ-loop group stages count sum₀ all₀ stage₀ sum all stage = stages + 1 - stage
 
 loop-holds : tie.Need-loop-holds Inv-loop μ-loop
 loop-holds c = search needs
@@ -31,8 +31,8 @@ loop-less c = search needs
 loop-again : tie.Need-loop-again Inv-loop μ-loop
 loop-again c = search needs
 
-report-requires : tie.Need-report-requires Inv-loop μ-loop
-report-requires c κs = search needs
+report-line-requires : tie.Need-report-line-requires Inv-loop μ-loop
+report-line-requires c κs = search needs
 
 returns : tie.Need-returns Inv-loop μ-loop
 returns c = search needs
@@ -50,5 +50,5 @@ report-group-spec =
     add-stage
     loop-less
     loop-again
-    report-requires
+    report-line-requires
     returns)

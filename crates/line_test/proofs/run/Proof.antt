@@ -6,10 +6,16 @@ use Rattle.line_test.proofs.run.Statement.{statement}
 use Rattle.line_test.proofs.run.Tie as tie
 
 abbrev Inv-loop : tie.InvT-loop
-Inv-loop file t₀ at₀ t at = at ≤ length file + 1
+Inv-loop file t₀ at₀ t5 t at = at ≤ length file + 1
 
 abbrev μ-loop : tie.MeasureT-loop
-μ-loop file t₀ at₀ t at = length file - at
+μ-loop file t₀ at₀ t5 t at = length file - at
+
+zero-requires : tie.Need-zero-requires Inv-loop μ-loop
+zero-requires c κs = search needs
+
+zero-requires-2 : tie.Need-zero-requires-2 Inv-loop μ-loop
+zero-requires-2 c κs = search needs
 
 loop-holds : tie.Need-loop-holds Inv-loop μ-loop
 loop-holds c = search needs
@@ -32,6 +38,12 @@ loop-less c = search needs
 loop-again : tie.Need-loop-again Inv-loop μ-loop
 loop-again c = search needs
 
+slice-aggregate-report : tie.Need-slice-aggregate-report Inv-loop μ-loop
+slice-aggregate-report c = search needs
+
+report-requires : tie.Need-report-requires Inv-loop μ-loop
+report-requires c κs = search needs
+
 returns : tie.Need-returns Inv-loop μ-loop
 returns c = search needs
 
@@ -41,6 +53,8 @@ run-spec =
     (tie.spec
     Inv-loop
     μ-loop
+    zero-requires
+    zero-requires-2
     loop-holds
     find-requires
     part-requires
@@ -48,4 +62,6 @@ run-spec =
     add-at
     loop-less
     loop-again
+    slice-aggregate-report
+    report-requires
     returns)

@@ -6,10 +6,10 @@ use Rattle.line_test.proofs.cases.shorter.Statement.{statement}
 use Rattle.line_test.proofs.cases.shorter.Tie as tie
 
 abbrev Inv-loop : tie.InvT-loop
-Inv-loop number «record» input text sum₀ step room₀ sum room = (0 < step) × (step ≤ length text + 1)
+Inv-loop number «record» input text total₀ step room₀ total room = (0 < step) × (step ≤ length text + 1)
 
 abbrev μ-loop : tie.MeasureT-loop
-μ-loop number «record» input text sum₀ step room₀ sum room = length text - room
+μ-loop number «record» input text total₀ step room₀ total room = length text - room
 
 step-for-requires : tie.Need-step-for-requires Inv-loop μ-loop
 step-for-requires c κs = search needs
@@ -20,8 +20,8 @@ loop-holds c = search needs
 answered-requires : tie.Need-answered-requires Inv-loop μ-loop
 answered-requires c κs = search needs
 
-counted-requires : tie.Need-counted-requires Inv-loop μ-loop
-counted-requires c κs = search needs
+with-call-requires : tie.Need-with-call-requires Inv-loop μ-loop
+with-call-requires c κs = search needs
 
 add-room : tie.Need-add-room Inv-loop μ-loop
 add-room c = search needs
@@ -44,7 +44,7 @@ shorter-spec =
     step-for-requires
     loop-holds
     answered-requires
-    counted-requires
+    with-call-requires
     add-room
     loop-less
     loop-again

@@ -1,0 +1,146 @@
+/*
+ * Ruznavo from C: min-sum SCAN decoding of polar codes with shortcut nodes.
+ *
+ * `rt staticlib ruznavo` writes target/staticlib/libruznavo.a (x86-64, System V calling convention). It needs memcpy and
+ * memset of the C library and nothing else. It has no static data, allocates nothing, makes no system call and always
+ * returns, so calls may run on several threads at once as long as they do not share a buffer that one of them writes.
+ *
+ * Buffers. A buffer is a pointer and its length in elements, bytes or words as the type says.
+ *   - Samples, LLRs and words are in the machine's own representation, with the natural alignment of their type:
+ *     4 for float, int32_t and uint32_t, 2 for int16_t. Byte buffers need none.
+ *   - No pointer may be NULL, also where the length is 0.
+ *   - An output or workspace must not overlap any other buffer of the same call. Inputs may overlap each other;
+ *     they are only read.
+ *   - A buffer may be longer than what a call writes: the tail stays as it was. Inputs must have the exact length.
+ *   - Nothing outside a buffer is read or written. A length that is wrong for the memory behind the pointer cannot be
+ *     noticed.
+ *
+ * Sizes, for a code of N = 2^n positions, n from 1 to 10, of which K are unfrozen:
+ *   mask       N bytes, 1 frozen to zero, 0 unfrozen
+ *   plan       2N bytes; byte p belongs to node p of the tree: 1 is the root, 2p and 2p + 1 are the children of p,
+ *              N to 2N - 1 the leaves. 1 cuts a node, 0 does not. Byte 0 is 0.
+ *   payload    K bytes, one a bit
+ *   word, hard N bytes, one a bit
+ *   llrs       N values from -32767 to 32767; bit 0 is sent as +1, so a positive LLR speaks for bit 0
+ *   soft       N values; RUZNAVO_CERTAIN marks a bit that the frozen positions fix to 0
+ *   work       RUZNAVO_WORK_WORDS(N, n) words
+ *
+ * Answers. Each call answers one number; the functions below take it apart. The refusal number is 0 if the call was
+ * accepted. A refused call answers its number with every other result 0 and leaves every buffer as it was, the
+ * workspace too. If several causes apply, the lowest number of those that the call tests is answered.
+ *
+ * Stack. At N = 1024 the decoder used 4.4 KB, planner and plan check 1.8 KB each, the others 0.1 KB. c/test/stack.c
+ * measures this; take its figures for the library that you link.
+ */
+#ifndef RUZNAVO_H
+#define RUZNAVO_H
+
+#include <stddef.h>
+#include <stdint.h>
+
+#ifdef __cplusplus
+extern "C" {
+#endif
+
+#define RUZNAVO_MIN_N 2
+#define RUZNAVO_MAX_N 1024
+#define RUZNAVO_MAX_SWEEPS 16
+#define RUZNAVO_MAX_LLR 32767
+
+/* The soft value "certain". */
+#define RUZNAVO_CERTAIN INT32_MAX
+
+/* Words of a decode's workspace, for N = 2^n. */
+#define RUZNAVO_WORK_WORDS(N, n) ((size_t)(N) * ((size_t)(n) + 3))
+#define RUZNAVO_MAX_WORK_WORDS RUZNAVO_WORK_WORDS(RUZNAVO_MAX_N, 10)
+
+/* Marks of received positions. */
+enum { RUZNAVO_SENT = 0, RUZNAVO_PUNCTURED = 1, RUZNAVO_SHORTENED = 2 };
+
+/* Places of the planner's counts. */
+enum {
+    RUZNAVO_RATE_0,   /* all frozen */
+    RUZNAVO_RATE_1,   /* none frozen */
+    RUZNAVO_REP,      /* all frozen but the last */
+    RUZNAVO_SPC,      /* only the first frozen */
+    RUZNAVO_TYPE_I,   /* all frozen but the last two */
+    RUZNAVO_TYPE_III, /* only the first two frozen */
+    RUZNAVO_KINDS
+};
+
+/* Refusal numbers. The line program alone has number 13. */
+enum {
+    RUZNAVO_OK = 0,
+    RUZNAVO_BAD_LENGTH = 1,    /* mask length, or number of samples, is not a power of two from 2 to 1024 */
+    RUZNAVO_BAD_MASK = 2,      /* a mask byte above 1 */
+    RUZNAVO_BAD_COUNT = 3,     /* LLRs or position marks are not N, or the payload is not K */
+    RUZNAVO_BAD_SWEEPS = 4,    /* sweeps outside 1 to RUZNAVO_MAX_SWEEPS */
+    RUZNAVO_BAD_PLAN = 5,      /* plan is not 2N bytes, a plan byte above 1, or byte 0 not 0 */
+    RUZNAVO_BAD_CUTS = 6,      /* a path from root to leaf without exactly one cut, or a cut node of no kind */
+    RUZNAVO_BAD_LLR = 7,       /* an LLR of -32768 */
+    RUZNAVO_BAD_VARIANCE = 8,  /* the noise variance is not finite or not above 0 */
+    RUZNAVO_BAD_SAMPLE = 9,    /* a position mark above 2, or a sent sample that is not finite */
+    RUZNAVO_BAD_PAYLOAD = 10,  /* a payload byte above 1 */
+    RUZNAVO_SHORT_OUTPUT = 11, /* an output is too short */
+    RUZNAVO_SHORT_WORK = 12    /* the workspace is too short */
+};
+
+/* The refusal number of an answer. */
+static inline unsigned ruznavo_number(uint64_t answer) { return (unsigned)(answer & 255); }
+
+/* The cycles of a plan, a plan check (one sweep) or a decode (all its sweeps), in the latency model. */
+static inline uint32_t ruznavo_cycles(uint64_t answer) { return (uint32_t)(answer >> 8); }
+
+/* The frozen check of a decode: 1 exactly if the decoded frozen bits are all 0. */
+static inline unsigned ruznavo_check(uint64_t answer) { return (unsigned)(answer >> 40); }
+
+/*
+ * Received samples to LLRs: 2y / v, rounded to the nearest whole number, halves away from zero, within +-32767.
+ *   samples  N received values; one at a punctured or shortened position is not read and may be anything, also a NaN
+ *   marks    N position marks; punctured gives LLR 0, shortened gives 32767
+ *   llrs     the first N are written
+ * Answers the number: 0, 1, 3, 8, 9 or 11.
+ */
+uint64_t ruznavo_samples(const float *samples, size_t samples_length, const uint8_t *marks, size_t marks_length,
+                         float variance, int16_t *llrs, size_t llrs_length);
+
+/*
+ * Encodes a payload: its bits go to the unfrozen positions in rising order, and the first N bytes of word become that
+ * row times the polar matrix, in natural order.
+ * Answers the number: 0, 1, 2, 3, 10 or 11.
+ */
+uint64_t ruznavo_encode(const uint8_t *mask, size_t mask_length, const uint8_t *payload, size_t payload_length,
+                        uint8_t *word, size_t word_length);
+
+/*
+ * Makes the plan with the fewest cycles and cuts. A plan depends on the mask only: make it once for each mask.
+ *   plan     the first 2N bytes are written; hand exactly these 2N bytes to the decoder
+ *   counts   exactly RUZNAVO_KINDS words: the number of cut nodes of each kind
+ * Answers the number, 0, 1, 2 or 11, and the cycles of one sweep.
+ */
+uint64_t ruznavo_plan(const uint8_t *mask, size_t mask_length, uint8_t *plan, size_t plan_length,
+                      uint32_t counts[RUZNAVO_KINDS]);
+
+/*
+ * Checks a plan for a mask, as a decode does.
+ * Answers the number, 0, 1, 2, 5 or 6, and the cycles of one sweep.
+ */
+uint64_t ruznavo_check_plan(const uint8_t *mask, size_t mask_length, const uint8_t *plan, size_t plan_length);
+
+/*
+ * Decodes. Every allowed plan gives the same results; plans differ in cycles and time.
+ *   soft     the first N words are written
+ *   hard     the first N bytes are written: the decided word
+ *   payload  the first K bytes are written: the decided payload
+ *   work     the first N(n + 3) words; what they held has no influence, and they are 0 afterwards
+ * Answers the number, 0 to 7, 11 or 12, the cycles of all sweeps, and the frozen check.
+ */
+uint64_t ruznavo_decode(const uint8_t *mask, size_t mask_length, const uint8_t *plan, size_t plan_length, size_t sweeps,
+                        const int16_t *llrs, size_t llrs_length, int32_t *soft, size_t soft_length, uint8_t *hard,
+                        size_t hard_length, uint8_t *payload, size_t payload_length, int32_t *work, size_t work_length);
+
+#ifdef __cplusplus
+}
+#endif
+
+#endif

@@ -1,0 +1,86 @@
+// The library for a C host: numbers, and slices of bytes, words and samples. Each answer is one number.
+use decode::decode;
+use encode::encode;
+use kinds::KINDS;
+use planner::plan_mask;
+use plans::check_plan;
+use samples::Channel;
+use samples::samples_to_llrs;
+ghost use mathlib.Core.Path.{_≡_};
+ghost use lib.ListN.{length};
+ghost use Rattle.model.specs.Refusals.{samplesNumber, samplesLlrs, encodeNumber, encodeWord, planBytes};
+ghost use Rattle.decode.specs.Calls.{lent, given};
+ghost use Rattle.ruznavo.specs.Answers.{CheckAnswer, PlanAnswer, hostCounts, DecodeAnswer};
+
+// Samples to LLRs, at the noise variance. The answer is the number.
+#[no_mangle]
+pub extern "C" fn ruznavo_samples(
+    samples: &[f32],
+    marks: &[u8],
+    variance: f32,
+    llrs: &mut [i16],
+) -> u64
+    ensures { λ r. ⌜ r ≡ samplesNumber (now (samples .entry)) (now (marks .entry)) variance (length (now (llrs .entry))) ⌝ }
+    ensures { λ _. ⌜ now (llrs .exit) ≡ samplesLlrs (now (samples .entry)) (now (marks .entry)) variance (now (llrs .entry)) ⌝ }
+{
+    let channel = Channel { variance };
+    samples_to_llrs(samples, marks, channel, llrs) as u64
+}
+
+// The word of a payload. The answer is the number.
+#[no_mangle]
+pub extern "C" fn ruznavo_encode(mask: &[u8], payload: &[u8], word: &mut [u8]) -> u64
+    ensures { λ r. ⌜ r ≡ encodeNumber (now (mask .entry)) (now (payload .entry)) (length (now (word .entry))) ⌝ }
+    ensures { λ _. ⌜ now (word .exit) ≡ encodeWord (now (mask .entry)) (now (payload .entry)) (now (word .entry)) ⌝ }
+{
+    encode(mask, payload, word) as u64
+}
+
+// A check of a plan. The answer is number + 256 × cycles of one sweep.
+#[no_mangle]
+pub extern "C" fn ruznavo_check_plan(mask: &[u8], plan: &[u8]) -> u64
+    ensures { λ r. ⌜ CheckAnswer (now (mask .entry)) (now (plan .entry)) r ⌝ }
+{
+    let c = check_plan(mask, plan);
+    c.number as u64 + 256 * c.cycles as u64
+}
+
+// The planner's plan, and the counts of its cut nodes by kind. The answer is number + 256 × cycles of one sweep.
+#[no_mangle]
+pub extern "C" fn ruznavo_plan(mask: &[u8], plan: &mut [u8], counts: &mut [u32; KINDS]) -> u64
+    ensures { λ r. ⌜ PlanAnswer (now (mask .entry)) (length (now (plan .entry))) r ⌝ }
+    ensures { λ _. ⌜ now (plan .exit) ≡ planBytes (now (mask .entry)) (now (plan .entry)) ⌝ }
+    ensures { λ _. ⌜ now (counts .exit) ≡ hostCounts (now (mask .entry)) (length (now (plan .entry))) (now (counts .entry)) ⌝ }
+{
+    let p = plan_mask(mask, plan);
+    if p.number != 0 {
+        return p.number as u64;
+    }
+    let by_kind = p.counts;
+    *counts = by_kind;
+    let size = 2 * mask.len();
+    let c = check_plan(mask, &plan[..size]);
+    256 * c.cycles as u64
+}
+
+// A decode. The answer is number + 256 × cycles + 2 ^ 40 × frozen check.
+#[no_mangle]
+pub extern "C" fn ruznavo_decode(
+    mask: &[u8],
+    plan: &[u8],
+    sweeps: usize,
+    llrs: &[i16],
+    soft: &mut [i32],
+    hard: &mut [u8],
+    payload: &mut [u8],
+    work: &mut [i32],
+) -> u64
+    ensures { λ r. ⌜ DecodeAnswer
+        (given (now (mask .entry)) (now (plan .entry)) sweeps (now (llrs .entry))
+        (lent (now (soft .entry)) (now (hard .entry)) (now (payload .entry)) (now (work .entry))))
+        (lent (now (soft .exit)) (now (hard .exit)) (now (payload .exit)) (now (work .exit)))
+        r ⌝ }
+{
+    let d = decode(mask, plan, sweeps, llrs, soft, hard, payload, work);
+    d.number as u64 + 256 * d.cycles as u64 + 1099511627776 * d.check as u64
+}

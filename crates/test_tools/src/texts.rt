@@ -1,0 +1,49 @@
+// Parts of texts and the numbers in them. A place outside a text gives an empty part, so that no caller has an index to prove.
+ghost use Prim.Native.Nat.{_≤_, max};
+ghost use lib.ListN.{length};
+
+// The bytes from a to e.
+pub fn part(s: &[u8], a: usize, e: usize) -> &[u8] {
+    if a <= e {
+        if e <= s.len() {
+            return &s[a..e];
+        }
+    }
+    &s[0..0]
+}
+
+// Where the first b stands, from a position on; the end if there is none.
+pub fn find(s: &[u8], from: usize, b: u8) -> usize
+    ensures { λ r. ⌜ (from ≤ r) × (r ≤ max from (length (now (s .entry)))) ⌝ }
+{
+    let mut i = from;
+    while i < s.len() {
+        if s[i] == b {
+            return i;
+        }
+        i += 1;
+    }
+    i
+}
+
+// The value of a hexadecimal digit.
+fn digit(b: u8) -> u8
+    ensures { λ r. ⌜ r ≤ 15 ⌝ }
+{
+    match b {
+        b'0'..=b'9' => b - b'0',
+        b'a'..=b'f' => b - b'a' + 10,
+        _ => 0,
+    }
+}
+
+// The number of hexadecimal digits, below 2 ^ 32.
+pub fn number(s: &[u8]) -> u32 {
+    let mut n: u32 = 0;
+    let mut i = 0;
+    while i < s.len() {
+        n = n % 268435456 * 16 + digit(s[i]) as u32;
+        i += 1;
+    }
+    n
+}
