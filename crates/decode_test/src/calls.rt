@@ -1,6 +1,5 @@
 // The calls under test, on the first elements of buffers.
 use decode::Decoded;
-use encode::Encoded;
 use plans::Checked;
 use reference::outputs::Outputs;
 use test_tools::buffers::Bytes;
@@ -122,17 +121,6 @@ pub struct Word {
     pub word: Bytes,
 }
 
-fn is_done(answer: Encoded) -> bool {
-    match answer {
-        Encoded::Done => true,
-        Encoded::BadLength => false,
-        Encoded::BadMask => false,
-        Encoded::BadCount => false,
-        Encoded::BadPayload => false,
-        Encoded::ShortOutput => false,
-    }
-}
-
 pub fn encode_front(mask: Bytes, n: usize, payload: Bytes, k: usize, before: Bytes) -> Word {
     let mut word = before;
     let answer = encode::encode(
@@ -141,7 +129,7 @@ pub fn encode_front(mask: Bytes, n: usize, payload: Bytes, k: usize, before: Byt
         lent_bytes(&mut word, n),
     );
     Word {
-        done: is_done(answer),
+        done: answer == 0,
         word,
     }
 }

@@ -1,7 +1,6 @@
 // Cases: calls that are accepted, compared with the matrix product, and calls that are refused.
 use crate::calls::Answer;
 use crate::calls::encode_front;
-use crate::calls::number_of;
 use crate::calls::transform_front;
 use reference::words::product;
 use reference::words::spread;
@@ -76,7 +75,7 @@ pub fn frame_case() -> bool {
     let payload: [u8; 4] = [0, 0, 1, 1];
     let want: [u8; 8] = [0, 1, 0, 1, 0, 1, 0, 1];
     let mut word: [u8; 8] = [7; 8];
-    let number = number_of(encode::encode(&mask, &payload, &mut word));
+    let number = encode::encode(&mask, &payload, &mut word);
     both(number == 0, check::same(&word, &want))
 }
 

@@ -1,6 +1,5 @@
 // The call under test, on the first elements of buffers.
 use samples::Channel;
-use samples::Converted;
 use test_tools::buffers::Bytes;
 use test_tools::buffers::bytes;
 use test_tools::buffers::floats;
@@ -9,21 +8,9 @@ use test_tools::buffers::lent_shorts;
 // What an output buffer holds before a call; no LLR is this low.
 pub const FILLER: i16 = -32768;
 
-// The number of each answer in document 01.
-fn number_of(answer: Converted) -> i16 {
-    match answer {
-        Converted::Done => 0,
-        Converted::BadLength => 1,
-        Converted::BadMarks => 3,
-        Converted::BadVariance => 8,
-        Converted::BadSample => 9,
-        Converted::ShortOutput => 11,
-    }
-}
-
 // The number that a call answered, and the buffer that it was lent.
 pub struct Answer {
-    pub number: i16,
+    pub number: u32,
     pub llrs: [i16; 2056],
 }
 
@@ -44,7 +31,7 @@ pub fn convert(
         lent_shorts(&mut llrs, room),
     );
     Answer {
-        number: number_of(answer),
+        number: answer,
         llrs,
     }
 }

@@ -4,6 +4,7 @@ use crate::calls::FILLER;
 use crate::calls::convert;
 use crate::vectors::Vector;
 use crate::vectors::count;
+use crate::vectors::field;
 use crate::vectors::position;
 use crate::vectors::read_vector;
 use crate::vectors::vector_at;
@@ -57,7 +58,7 @@ fn same_llrs(a: [i16; 2056], b: [i16; 2056]) -> bool {
 }
 
 // Whether a call has its number and left the buffer as wanted.
-fn is_answer(got: Answer, number: i16, want: [i16; 2056]) -> bool {
+fn is_answer(got: Answer, number: u32, want: [i16; 2056]) -> bool {
     let llrs = got.llrs;
     both(got.number == number, same_llrs(llrs, want))
 }
@@ -111,7 +112,7 @@ pub fn refusal_case(file: &[u8], i: usize) -> bool {
         v.channel,
         count(file, at + 39),
     );
-    is_answer(got, v.llr, [FILLER; 2056])
+    is_answer(got, field(file, at + 22, 4), [FILLER; 2056])
 }
 
 // A call on n samples with no fault but its length.

@@ -31,7 +31,7 @@ fn float(bits: u32) -> f32 {
 }
 
 // The number of so many digits from a place on.
-fn field(file: &[u8], at: usize, digits: usize) -> u32
+pub fn field(file: &[u8], at: usize, digits: usize) -> u32
     requires { ⌜ (at ≤ 66560) × (digits ≤ 8) ⌝ }
 {
     number(part(file, at, at + digits))
