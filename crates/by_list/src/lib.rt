@@ -55,7 +55,7 @@ fn by_list_fours(w: &mut [i32], m: usize, x: usize, l: usize, c: usize, h: usize
 }
 
 // The message of `combine::node_message`, where the right child's incoming list w[c + k] = box(w[x + k], w[l + k]) + w[x + h + k] is still at c: less w[x + h + k], its
-// words are the boxes of the second half. Two places are not taken at once.
+// words are the boxes of the second half. A half of fewer than four places is stored by `combine::node_message` itself.
 pub fn message_by_list(w: &mut [i32], m: usize, x: usize, l: usize, c: usize, h: usize)
     requires { ⌜ Places m x l h c × (c + h ≤ length (now w)) ⌝ }
     requires { ⌜ InRange (now w) x l h × RightListAt (now w) x l c h ⌝ }

@@ -9,7 +9,7 @@ use Rattle.words.specs.Words.{boxWord, addWord, word, write, Words, Added, Fini
 abbrev pub Apart : ℕ → ℕ → ℕ → Type 0
 Apart n a b = (a + n ≤ b) ⊎ (b + n ≤ a)
 
--- ---- what is stored
+-- ---- what is stored for place k: a box, a sum, and one inside the other
 abbrev pub boxAt : List ℤ → ℕ → ℕ → ℕ → ℤ
 boxAt w a b k = boxWord (word w (a + k)) (word w (b + k))
 
@@ -17,35 +17,36 @@ abbrev pub plusAt : List ℤ → ℕ → ℕ → ℕ → ℤ
 plusAt w a b k = addWord (word w (a + k)) (word w (b + k))
 
 abbrev pub boxPlus : List ℤ → ℕ → ℕ → ℕ → ℕ → ℤ
-boxPlus w a b c k = boxWord (word w (a + k)) (addWord (word w (b + k)) (word w (c + k)))
+boxPlus w a b c k = boxWord (word w (a + k)) (plusAt w b c k)
 
 abbrev pub plusBox : List ℤ → ℕ → ℕ → ℕ → ℕ → ℤ
-plusBox w a b c k = addWord (boxWord (word w (a + k)) (word w (b + k))) (word w (c + k))
+plusBox w a b c k = addWord (boxAt w a b k) (word w (c + k))
 
 abbrev pub plusFront : List ℤ → ℕ → ℕ → ℤ
 plusFront w d k = addWord (word w (d + k)) (word w k)
 
--- ---- what the sums require
+-- ---- what the sums of h places require
+abbrev pub Sums : List ℤ → ℕ → ℕ → ℕ → Type 0
+Sums w a b h = (k : ℕ) → k < h → Added (word w (a + k)) (word w (b + k))
+
+abbrev pub BoxSums : List ℤ → ℕ → ℕ → ℕ → ℕ → Type 0
+BoxSums w a b c h = (k : ℕ) → k < h → Added (boxAt w a b k) (word w (c + k))
+
 abbrev pub FiniteSums : List ℤ → ℕ → ℕ → ℕ → Type 0
 FiniteSums w a b h = (k : ℕ) → k < h → Finite (word w (a + k)) (word w (b + k))
 
-abbrev pub Sums : List ℤ → ℕ → ℕ → ℕ → Type 0
-Sums w b c h = (k : ℕ) → k < h → Added (word w (b + k)) (word w (c + k))
-
-abbrev pub BoxSums : List ℤ → ℕ → ℕ → ℕ → ℕ → Type 0
-BoxSums w a b c h = (k : ℕ) → k < h → Added (boxWord (word w (a + k)) (word w (b + k))) (word w (c + k))
-
 abbrev pub FiniteBoxSums : List ℤ → ℕ → ℕ → ℕ → ℕ → Type 0
-FiniteBoxSums w a b c h = (k : ℕ) → k < h → Finite (boxWord (word w (a + k)) (word w (b + k))) (word w (c + k))
+FiniteBoxSums w a b c h = (k : ℕ) → k < h → Finite (boxAt w a b k) (word w (c + k))
 
--- ---- the message of an uncut node of size 2h, at m: its incoming list L is at x, its left child's message l at l and its right child's r at l + h
+-- ---- the message of an uncut node of size 2h. Its incoming list L is in the 2h words from x on, its left child's message in the h words from l on and its
+-- right child's in the h words behind these; the message goes into the 2h words from m on
 -- these follow each other, and the list ends before `end`
 pub record Places (m x l h end : ℕ) : Type 0 where
   pub children : l + (h + h) ≤ m
   pub message : m + (h + h) ≤ x
   pub list : x + (h + h) ≤ end
 
--- what is read, and each sum on the way, is a word
+-- what is read, and each sum on the way, is `Word`, and a sum's first part is finite
 pub record InRange (w : List ℤ) (x l h : ℕ) : Type 0 where
   pub first : Words w x h
   pub left : Words w l h
@@ -53,7 +54,7 @@ pub record InRange (w : List ℤ) (x l h : ℕ) : Type 0 where
   pub sums : Sums w (x + h) (l + h) h
   pub box-sums : BoxSums w x l (l + h) h
 
--- the two halves of the message: box(l[k], L[k+h] + r[k]) and box(L[k], l[k]) + r[k], as in the model's `toNode`
+-- its two halves, as in the model's `toNode`: box(left[k], L[k+h] + right[k]) and box(L[k], left[k]) + right[k]
 abbrev pub lowHalf : List ℤ → (x l h : ℕ) → ℕ → ℤ
 lowHalf w x l h = boxPlus w l (x + h) (l + h)
 
@@ -64,6 +65,6 @@ highHalf w x l h = plusBox w x l (l + h)
 abbrev pub nodeWords : List ℤ → (m x l h : ℕ) → List ℤ
 nodeWords w m x l h = write (write w m h (lowHalf w x l h)) (m + h) h (highHalf w x l h)
 
--- the right child's incoming list box(L[k], l[k]) + L[k+h] is at c, and each sum in it was of finite words
+-- the right child's incoming list box(L[k], left[k]) + L[k+h] is at c, each sum in it of finite words
 abbrev pub RightListAt : List ℤ → (x l c h : ℕ) → Type 0
 RightListAt w x l c h = FiniteBoxSums w x l (x + h) h × Holds w c h (plusBox w x l (x + h))

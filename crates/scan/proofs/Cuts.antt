@@ -15,7 +15,7 @@ use Rattle.model.specs.Scan.{leaf}
 use Rattle.model.specs.Kinds.{isSome, isKind, Kind, rate-0, rate-1, REP, SPC, type-I, type-III, kindOf, shortcut, others}
 use Rattle.model.specs.Plans.{isRate01, isCut, wellCut, putKind, put}
 use Rattle.model.specs.Bounds.{limit, Small, Under, cap}
-use Rattle.model.proofs.Lists.{T-true, true-T, absurd-bool, double, tabulate-ext, getD-tabulate, and-l, and-r}
+use Rattle.model.proofs.Lists.{T-true, absurd-bool, double, tabulate-ext, getD-tabulate, and-l}
 use Rattle.model.proofs.PlannedWalk.{walk-cut}
 use Rattle.model.proofs.Paths.{wellCut-cut}
 use Rattle.model.proofs.Bounds.{shortcut-under, under-mono}
@@ -27,7 +27,7 @@ use Rattle.kinds.specs.Known.{FixedAs}
 use Rattle.scan.specs.Space.{constant, treeAt, begun, part, Room, Visited}
 use Rattle.messages.specs.Cut.{cutWords}
 use Rattle.scan.proofs.Begun.{begun-put}
-use Rattle.scan.proofs.Known.{is-kind}
+use Rattle.scan.proofs.Known.{both-true, is-kind}
 use Rattle.scan.proofs.Keep.{Fit, kept-row, node-path, under, stored-at}
 use Rattle.scan.proofs.Runs.{fit-room}
 
@@ -126,10 +126,8 @@ visited-fixed {plan} {mask} {N} {t} {s} {p} {b} {x} {first} {w} {v} room a z f s
   where
     of-kind : (k : Kind) → (isCut plan p && isKind k (kindOf s (take s (drop b mask)))) ≡ true → v ≡ stored w (t * N + b) s (shortcut k s (soft w x s)) → Visited plan mask N t p b x first w v
     of-kind k q e =
-        let c : T (isCut plan p && isKind k (kindOf s (take s (drop b mask)))) = true-T _ q in
-        let yes : isCut plan p ≡ true = T-true (isCut plan p) (and-l (isCut plan p) (isKind k (kindOf s (take s (drop b mask)))) c) in
-        let o : kindOf s (take s (drop b mask)) ≡ some k = is-kind k _ (T-true (isKind k (kindOf s (take s (drop b mask)))) (and-r (isCut plan p) (isKind k (kindOf s (take s (drop b mask)))) c)) in
-        visited-cut plan mask N t s p b x first w v room yes (e ∙ ap (λ (i : Option Kind). cutWords i w (t * N + b) x s) (sym o ∙ kind-stage mask b s t (room .size)))
+        let cut-so = both-true (isCut plan p) (isKind k (kindOf s (take s (drop b mask)))) q in
+        visited-cut plan mask N t s p b x first w v room (cut-so .0) (e ∙ ap (λ (i : Option Kind). cutWords i w (t * N + b) x s) (sym (is-kind k _ (cut-so .1)) ∙ kind-stage mask b s t (room .size)))
 
     go : (a z : Bool) → (isCut plan p && isKind rate-0 (kindOf s (take s (drop b mask)))) ≡ a → (isCut plan p && isKind rate-1 (kindOf s (take s (drop b mask)))) ≡ z → (a || z) ≡ true
         → v ≡ write w (t * N + b) s (λ k. cond a (pos mark) (pos 0)) → Visited plan mask N t p b x first w v

@@ -4,7 +4,7 @@ use mathlib.Core.Logic.{⊎-elim, inl, inr}
 use lib.IntN.{ℤ, pos}
 use mathlib.Core.List.{List, [], _∷_}
 use Prim.Native.Nat.{ℕ, zero, suc, _+_, _*_, _^_, _≤_, _<_}
-use native.Mathlib.Nat.{eq-or-lt-of-le, mul-le-mul-right, suc-mul}
+use native.Mathlib.Nat.{eq-or-lt-of-le, mul-le-mul-right, suc-mul, mul-add, mul-comm}
 use native.Mathlib.Omega.{arith}
 use lib.ListN.{length, take, drop, getD}
 use lib.Seq.{take-take, drop-drop}
@@ -31,6 +31,10 @@ kept-trans p q = record {
   between = λ j le lt. q .between j le lt ∙ p .between j le lt;
   beyond = λ j le. q .beyond j le ∙ p .beyond j le;
 }
+
+-- where the row t + k begins
+pub row-start : (N t k : ℕ) → N * (t + k) ≡ t * N + k * N
+row-start N t k = omega (arith, mul-add N t k, mul-comm N t, mul-comm N k)
 
 pub row-below : (N u t i : ℕ) → u < t → i < N → u * N + i < t * N
 row-below N u t i lt h = omega (arith, mul-le-mul-right N lt, suc-mul u N)

@@ -12,10 +12,14 @@ use Rattle.model.specs.Scan.{Tree, message}
 use Rattle.model.specs.Lists.{tabulate}
 use Rattle.model.specs.Kinds.{Kind, rate-0, rate-1, REP, SPC, type-I, type-III, order, row, isKind, kindOf, shortcut}
 use Rattle.model.specs.Plans.{isCut, isRate01, putKind, walk}
-use Rattle.model.proofs.Lists.{T-true, true-T, and-l, and-r, getD-tabulate}
+use Rattle.model.proofs.Lists.{getD-tabulate}
 use Rattle.model.proofs.PlannedWalk.{walk-cut, message-put}
 use Rattle.kinds.specs.Known.{FixedAs}
 use Rattle.scan.specs.Space.{constant}
+
+pub both-true : (a b : Bool) → (a && b) ≡ true → (a ≡ true) × (b ≡ true)
+both-true true b e = (refl, e)
+both-true false b e = absurd (subst T (sym e) tt)
 
 -- a child is constant exactly if its message is certain or 0
 rate-01 : (o : Option Kind) → (isKind rate-0 o || isKind rate-1 o) ≡ isRate01 o
@@ -52,10 +56,8 @@ walk-fixed : (k : Kind) (s : Soft) → ((m : ℕ) (L : List Soft) → shortcut k
     → (plan : List ℕ) (t p : ℕ) (mask : List ℕ) (P : Tree) (L : List Soft) → (isCut plan p && isKind k (kindOf (2 ^ t) mask)) ≡ true
     → (i : ℕ) → i < 2 ^ t → message (walk plan t p mask P L) at i ≡ s
 walk-fixed k s table plan t p mask P L e i lt =
-    let c : T (isCut plan p && isKind k (kindOf (2 ^ t) mask)) = true-T _ e in
-    let q : isCut plan p ≡ true = T-true (isCut plan p) (and-l (isCut plan p) (isKind k (kindOf (2 ^ t) mask)) c) in
-    let o : kindOf (2 ^ t) mask ≡ some k = is-kind k (kindOf (2 ^ t) mask) (T-true (isKind k (kindOf (2 ^ t) mask)) (and-r (isCut plan p) (isKind k (kindOf (2 ^ t) mask)) c)) in
-    ap (λ (T′ : Tree). message T′ at i) (walk-cut plan t p mask P L q ∙ ap (λ (x : Option Kind). putKind x (2 ^ t) L P) o)
+    let cut-so = both-true (isCut plan p) (isKind k (kindOf (2 ^ t) mask)) e in
+    ap (λ (T′ : Tree). message T′ at i) (walk-cut plan t p mask P L (cut-so .0) ∙ ap (λ (x : Option Kind). putKind x (2 ^ t) L P) (is-kind k (kindOf (2 ^ t) mask) (cut-so .1)))
     ∙ ap (λ (l : List Soft). l at i) (message-put (shortcut k (2 ^ t) L) P ∙ table (2 ^ t) L)
     ∙ getD-tabulate (2 ^ t) (λ i. s) i softZero lt
 

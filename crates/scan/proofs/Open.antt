@@ -4,7 +4,7 @@ use mathlib.Core.Bool.{Bool}
 use mathlib.Core.List.{List}
 use mathlib.Core.Logic.{⊎-elim}
 use Prim.Native.Nat.{ℕ, zero, suc, _+_, _*_, _-_, _^_, _/_, _%_, _≤_, _<_}
-use native.Mathlib.Nat.{mul-add, mul-comm, mod-add-div, mod-lt, div-lt-iff-lt-mul, eq-or-lt-of-le}
+use native.Mathlib.Nat.{mul-comm, mod-add-div, mod-lt, div-lt-iff-lt-mul, eq-or-lt-of-le}
 use native.Mathlib.Omega.{arith}
 use lib.IntN.{ℤ}
 use lib.Pow.{pow-pos}
@@ -16,7 +16,7 @@ use Rattle.words.specs.Words.{word, soft}
 use Rattle.words.proofs.Laws.{word-soft}
 use Rattle.words.proofs.Store.{lt-or-ge}
 use Rattle.scan.specs.Space.{treeAt, begun, Scratch, Swept}
-use Rattle.scan.proofs.Keep.{soft-cong, tree-cong, message-at, row-under}
+use Rattle.scan.proofs.Keep.{soft-cong, tree-cong, message-at, row-start, row-under}
 
 -- equal trees were read from equal words: those of the root's row
 row-words : (N t b : ℕ) (w v : List ℤ) → treeAt N v t b ≡ treeAt N w t b → (u i : ℕ) → u ≡ t → b ≤ i → i < b + 2 ^ t → word v (u * N + i) ≡ word w (u * N + i)
@@ -51,24 +51,15 @@ module _ (plan mask : List ℕ) (N t : ℕ) (first : Bool) (k : ℕ) (size : N �
   positive : 0 < N
   positive = omega (arith, size, pow-pos t)
 
-  root-list : N * (t + 1) ≡ t * N + N
-  root-list = omega (arith, mul-add N t 1, mul-comm N t)
-
-  scratch-from : N * (t + 2) ≡ t * N + 2 * N
-  scratch-from = omega (arith, mul-add N t 2, mul-comm N t)
-
-  all-rows : N * (t + 3) ≡ t * N + 3 * N
-  all-rows = omega (arith, mul-add N t 3, mul-comm N t)
-
   module _ (w w′ : List ℤ) (same : SameBut N t w w′) where
     same-tree : treeAt N w′ t 0 ≡ treeAt N w t 0
-    same-tree = tree-cong N t 0 w w′ (λ u i le low high. same (u * N + i) (λ s. omega (arith, row-under N u t i le (omega (arith, size)), scratch-from)))
+    same-tree = tree-cong N t 0 w w′ (λ u i le low high. same (u * N + i) (λ s. omega (arith, row-under N u t i le (omega (arith, size)), row-start N t 2)))
 
     same-list : soft w′ (N * (t + 1)) N ≡ soft w (N * (t + 1)) N
-    same-list = soft-cong w w′ (N * (t + 1)) N (λ i lt. same (N * (t + 1) + i) (λ s. omega (arith, root-list, scratch-from)))
+    same-list = soft-cong w w′ (N * (t + 1)) N (λ i lt. same (N * (t + 1) + i) (λ s. omega (arith, row-start N t 1, row-start N t 2)))
 
     pub swept-same : (v v′ : List ℤ) → Swept plan mask N t first k w v → Swept plan mask N t first k w′ v′ → SameBut N t v v′
-    swept-same v v′ p q j out = ⊎-elim (λ (lt : j < (t + 1) * N). rows lt) (λ (ge : (t + 1) * N ≤ j). past-rows (omega (arith, root-list, mul-comm N (t + 1)))) (lt-or-ge j ((t + 1) * N))
+    swept-same v v′ p q j out = ⊎-elim (λ (lt : j < (t + 1) * N). rows lt) (λ (ge : (t + 1) * N ≤ j). past-rows (omega (arith, row-start N t 1, mul-comm N (t + 1)))) (lt-or-ge j ((t + 1) * N))
       where
         start : begun first plan t 1 mask (treeAt N w′ t 0) ≡ begun first plan t 1 mask (treeAt N w t 0)
         start = ap (begun first plan t 1 mask) same-tree
@@ -88,10 +79,10 @@ module _ (plan mask : List ℕ) (N t : ℕ) (first : Bool) (k : ℕ) (size : N �
         past-rows ge = ⊎-elim
             (λ (lt : j < t * N + 2 * N).
             let i : ℕ = j - N * (t + 1) in
-            let place : N * (t + 1) + i ≡ j = omega (arith, root-list) in
-            let few : i < N = omega (arith, root-list) in
-            ap (word v′) (sym place) ∙ q .list i few ∙ same (N * (t + 1) + i) (λ s. omega (arith, scratch-from)) ∙ sym (p .list i few) ∙ ap (word v) place)
+            let place : N * (t + 1) + i ≡ j = omega (arith, row-start N t 1) in
+            let few : i < N = omega (arith, row-start N t 1) in
+            ap (word v′) (sym place) ∙ q .list i few ∙ same (N * (t + 1) + i) (λ s. omega (arith, row-start N t 2)) ∙ sym (p .list i few) ∙ ap (word v) place)
             (λ (le : t * N + 2 * N ≤ j).
-            let far : N * (t + 3) ≤ j = ⊎-elim (λ (lt : j < N * (t + 3)). absurd (out (omega (arith, scratch-from), lt))) (λ (h : N * (t + 3) ≤ j). h) (lt-or-ge j (N * (t + 3))) in
+            let far : N * (t + 3) ≤ j = ⊎-elim (λ (lt : j < N * (t + 3)). absurd (out (omega (arith, row-start N t 2), lt))) (λ (h : N * (t + 3) ≤ j). h) (lt-or-ge j (N * (t + 3))) in
             q .past j far ∙ same j out ∙ sym (p .past j far))
             (lt-or-ge j (t * N + 2 * N))

@@ -4,7 +4,7 @@ use lib.IntN.{ℤ, pos, natAbs}
 use mathlib.Core.Bool.{Bool, true, false}
 use mathlib.Core.List.{List, [], _∷_, map}
 use Prim.Native.Nat.{ℕ, zero, suc, _+_, _*_, _^_, _≤_, _<_}
-use native.Mathlib.Nat.{mul-add, mul-comm, one-mul, mul-le-mul-right}
+use native.Mathlib.Nat.{one-mul, mul-le-mul-right}
 use native.Mathlib.Numerals.{add-one}
 use native.Mathlib.Omega.{arith}
 use lib.Pow.{pow-pos, pow-mono}
@@ -27,18 +27,11 @@ use Rattle.words.proofs.Laws.{soft-at, word-soft, soft-fin}
 use Rattle.words.proofs.Store.{length-write, write-is, write-ext, source-above}
 use Rattle.scan.specs.Space.{treeAt, begun, part, Room, Kept, Visited, Ready, Swept, Decodable}
 use Rattle.scan.proofs.Begun.{overlaid-agrees, overlaid-held, begun-stays}
-use Rattle.scan.proofs.Keep.{tree-message, soft-cong, stored-at}
+use Rattle.scan.proofs.Keep.{row-start, tree-message, soft-cong, stored-at}
 
 -- the whole mask
 whole : (mask : List ℕ) (t : ℕ) → length mask ≤ 2 ^ t → part mask 0 t ≡ mask
 whole mask t h = take-all (2 ^ t) mask h
-
--- where the root's incoming list and the end of the workspace are
-at-root : (N t : ℕ) → N * (t + 1) ≡ t * N + N
-at-root N t = omega (arith, mul-add N t 1, mul-comm N t)
-
-all-rows : (N t : ℕ) → N * (t + 3) ≡ t * N + 3 * N
-all-rows N t = omega (arith, mul-add N t 3, mul-comm N t)
 
 module _ {plan mask : List ℕ} {N t : ℕ} {first : Bool} {w : List ℤ} (r : Ready plan mask N t first w) where
   positive : 0 < N
@@ -55,8 +48,8 @@ module _ {plan mask : List ℕ} {N t : ℕ} {first : Bool} {w : List ℤ} (r : R
   pub root-room : Room plan mask N t N 1 0 (N * (t + 1)) first w
   root-room = record {
     size = r .size;
-    fit = omega (arith, r .room, at-root N t, all-rows N t);
-    rows = omega (arith, at-root N t);
+    fit = omega (arith, r .room, row-start N t 1, row-start N t 3);
+    rows = omega (arith, row-start N t 1);
     within = omega arith;
     planned = omega (arith, allowed-length t plan mask (r .allowed), r .size);
     masked = omega (arith, r .positions);
@@ -81,8 +74,8 @@ module _ {plan mask : List ℕ} {N t : ℕ} {first : Bool} {w : List ℤ} (r : R
         tree = tree-is v done;
         below = stays-then plan t 1 (treeAt N w t 0) P₀ (treeAt N v t 0) (begun-stays first plan t 1 mask (treeAt N w t 0))
             (subst (Stays plan t 1 P₀) (sym (tree-is v done)) (walk-stays plan t 1 mask P₀ (soft w (N * (t + 1)) N)));
-        list = λ i lt. k .between (N * (t + 1) + i) (omega (arith, at-root N t)) (omega (arith, r .size));
-        past = λ j le. k .beyond j (omega (arith, at-root N t, all-rows N t, r .size));
+        list = λ i lt. k .between (N * (t + 1) + i) (omega (arith, row-start N t 1)) (omega (arith, r .size));
+        past = λ j le. k .beyond j (omega (arith, row-start N t 1, row-start N t 3, r .size));
         long = k .long;
       }
 
@@ -169,7 +162,7 @@ module _ (plan mask : List ℕ) (llrs : List ℤ) (count N t : ℕ) (out w w₁ 
   loaded =
       ap (λ (n : ℕ). tabulate n (λ k. softOf (word w₁ (N * (t + 1) + k)))) (sym (can .values))
       ∙ tabulate-ext (length llrs) _ (λ k. finite (word llrs k)) (λ k lt.
-      ap softOf (stored-at w w₁ (N * (t + 1)) (length llrs) (word llrs) k e₁ lt (omega (arith, can .values, can .room, at-root N t, all-rows N t)))
+      ap softOf (stored-at w w₁ (N * (t + 1)) (length llrs) (word llrs) k e₁ lt (omega (arith, can .values, can .room, row-start N t 1, row-start N t 3)))
       ∙ soft-fin (word llrs k) (λ e. let f : natAbs (word llrs k) ≡ mark = ap natAbs e in omega (arith, can .small k (omega (arith, can .values)))))
       ∙ tabulate-map finite llrs (pos 0)
 
@@ -209,7 +202,7 @@ module _ (plan mask : List ℕ) (llrs : List ℤ) (count N t : ℕ) (out w w₁ 
         (λ j lt. absurd (omega arith))
         (λ j le. source-above (pos 0) w₂ v 0 (N * (t + 3)) _ j e le
         ∙ s .past j (omega arith)
-        ∙ source-above (pos 0) w w₁ (N * (t + 1)) (length llrs) _ j e₁ (omega (arith, at-root N t, all-rows N t, can .values)))
+        ∙ source-above (pos 0) w w₁ (N * (t + 1)) (length llrs) _ j e₁ (omega (arith, row-start N t 1, row-start N t 3, can .values)))
 
 -- the numbers of a decode
 pub record Sizes (N t words : ℕ) : Type 0 where
@@ -222,8 +215,8 @@ pub sizes-of : {plan mask : List ℕ} {llrs : List ℤ} {count N t out words : �
 sizes-of {N = N} {t = t} {words = words} can =
     let p : 0 < N = subst (λ (z : ℕ). 0 < z) (sym (can .size)) (pow-pos t) in
     record {
-      root = at-root N t;
-      rows = all-rows N t;
+      root = omega (arith, row-start N t 1);
+      rows = row-start N t 3;
       few = omega (arith, can .room, mul-le-mul-right (t + 3) p, one-mul (t + 3));
-      fits = omega (arith, all-rows N t, can .room);
+      fits = omega (arith, row-start N t 3, can .room);
     }

@@ -15,7 +15,7 @@ use Rattle.model.specs.Scan.{Tree, node, message, left, right, toLeft, toRight,
 use Rattle.model.specs.Kinds.{isSome, Kind, rate-0, rate-1, REP, SPC, type-I, type-III, kindOf, shortcut}
 use Rattle.model.specs.Plans.{isRate01, putKind, isCut, wellCut, walk}
 use Rattle.model.specs.Bounds.{limit, SmallAll, UnderAll, Held, cap}
-use Rattle.model.proofs.Lists.{T-true, true-T, absurd-bool, double, tabulate-halves, and-l, and-r}
+use Rattle.model.proofs.Lists.{absurd-bool, double, tabulate-halves, and-l, and-r}
 use Rattle.model.proofs.PlannedWalk.{walk-cut, walk-through, descend}
 use Rattle.model.proofs.Paths.{wellCut-cut, wellCut-through}
 use Rattle.model.proofs.Bounds.{cap-suc, small-toLeft, small-toRight, held-walk, held-message}
@@ -27,7 +27,7 @@ use Rattle.scan.specs.Space.{constant, treeAt, begun, part, Room, Visite
 use Rattle.scan.proofs.Keep.{Fit, node-path, part-left, part-right}
 use Rattle.scan.proofs.Begun.{begun-left, begun-right, begun-zero, leaf-constant}
 use Rattle.scan.proofs.Mids.{Mid, Visiting, mid-start, mid-scratch, mid-row, mid-left, mid-right, words-list, words-high, words-left, right-sums, right-stays, right-list, left-sums, left-list, left-list-zero, in-range, low-half, high-half, left-holds, right-holds}
-use Rattle.scan.proofs.Known.{fixed-constant, walk-certain, walk-zero}
+use Rattle.scan.proofs.Known.{both-true, fixed-constant, walk-certain, walk-zero}
 
 -- ---- the stores of an uncut visit: h is half the size, u the stage below, c the place of the child's incoming list
 -- a child's incoming list is stored unless the child is constant
@@ -99,10 +99,8 @@ rate01-same (some type-III) m L L′ P e = absurd (subst T (sym e) tt)
 
 walk-constant : (plan : List ℕ) (t p : ℕ) (mask : List ℕ) (P : Tree) (L L′ : List Soft) → constant plan (2 ^ t) p mask ≡ true → walk plan t p mask P L ≡ walk plan t p mask P L′
 walk-constant plan t p mask P L L′ e =
-    let c : T (constant plan (2 ^ t) p mask) = true-T (constant plan (2 ^ t) p mask) e in
-    let q : isCut plan p ≡ true = T-true (isCut plan p) (and-l (isCut plan p) (isRate01 (kindOf (2 ^ t) mask)) c) in
-    let r : isRate01 (kindOf (2 ^ t) mask) ≡ true = T-true (isRate01 (kindOf (2 ^ t) mask)) (and-r (isCut plan p) (isRate01 (kindOf (2 ^ t) mask)) c) in
-    walk-cut plan t p mask P L q ∙ rate01-same (kindOf (2 ^ t) mask) (2 ^ t) L L′ P r ∙ sym (walk-cut plan t p mask P L′ q)
+    let cut-so = both-true (isCut plan p) (isRate01 (kindOf (2 ^ t) mask)) e in
+    walk-cut plan t p mask P L (cut-so .0) ∙ rate01-same (kindOf (2 ^ t) mask) (2 ^ t) L L′ P (cut-so .1) ∙ sym (walk-cut plan t p mask P L′ (cut-so .0))
 
 pub fit-room : {plan mask : List ℕ} {N t s p b x : ℕ} {first : Bool} {w : List ℤ} → Room plan mask N t s p b x first w → Fit N t b x (length w)
 fit-room r = record { fit = omega (arith, r .size, r .fit); rows = r .rows; within = omega (arith, r .size, r .within) }

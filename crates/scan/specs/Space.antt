@@ -38,7 +38,7 @@ part mask b t = take (2 ^ t) (drop b mask)
 abbrev pub constant : List ℕ → ℕ → ℕ → List ℕ → Bool
 constant plan m p mask = isCut plan p && isRate01 (kindOf m mask)
 
--- what a visit of node p at stage t, of s positions from b on, with its incoming list at x, requires.
+-- what a visit of node p at stage t, of s positions from b on, with its incoming list at x, requires; the mask has N positions.
 -- Messages below a cut are not mentioned, nor are stored messages in the first sweep.
 pub record Room (plan mask : List ℕ) (N t s p b x : ℕ) (first : Bool) (w : List ℤ) : Type 0 where
   pub size : s ≡ 2 ^ t

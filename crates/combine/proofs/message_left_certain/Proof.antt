@@ -33,13 +33,6 @@ add-words-requires-2 c κs =
     let lt = in-loop .loop-test .taken in
     subst₂ Added (box-certain (start .args .w .now) (start .args .x) (start .args .l) _ (pre .1 _ lt) (pre .0 .first _ lt) ∙ sym (turn in-loop .first)) (sym (turn in-loop .right)) (pre .0 .box-sums _ lt)
 
-slice-set-from-w-2 : tie.Need-slice-set-from-w-2 Inv-loop μ-loop
-slice-set-from-w-2 c =
-    let at-loop = c .before .before .before .before .before .before in
-    let room = at-loop .before .pre .0 in
-    let inv = at-loop .loop .inv in
-    simp length-set (omega arith)
-
 loop-again : tie.Need-loop-again Inv-loop μ-loop
 loop-again c =
     let low = c .before .add-words in
@@ -66,7 +59,7 @@ message-left-certain-spec =
     add-words-requires
     (λ c. omega arith) (λ c. omega arith) (λ c. omega arith)  -- w[m + k]
     add-words-requires-2
-    (λ c. omega arith) (λ c. omega arith) slice-set-from-w-2  -- w[g + k]
+    (λ c. omega arith) (λ c. omega arith) (λ c. let at-loop = c .before .before .before .before .before .before in let room = at-loop .before .pre .0 in let inv = at-loop .loop .inv in simp length-set (omega arith))  -- w[g + k]
     (λ c. omega arith)  -- k + 1
     (λ c. omega arith)  -- less is left
     loop-again

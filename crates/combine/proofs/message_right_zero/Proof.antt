@@ -34,13 +34,6 @@ box-words-requires-2 c κs =
     let lt = in-loop .loop-test .taken in
     (subst Word (sym (turn in-loop .first)) (range .first _ lt), subst Word (sym (turn in-loop .left)) (range .left _ lt))
 
-slice-set-from-w-2 : tie.Need-slice-set-from-w-2 Inv-loop μ-loop
-slice-set-from-w-2 c =
-    let at-loop = c .before .before .before .before .before .before in
-    let room = at-loop .before .pre .0 in
-    let inv = at-loop .loop .inv in
-    simp length-set (omega arith)
-
 loop-again : tie.Need-loop-again Inv-loop μ-loop
 loop-again c =
     let low = c .before .box-words in
@@ -66,7 +59,7 @@ message-right-zero-spec =
     box-words-requires
     (λ c. omega arith) (λ c. omega arith) (λ c. omega arith)  -- w[m + k]
     box-words-requires-2
-    (λ c. omega arith) (λ c. omega arith) slice-set-from-w-2  -- w[g + k]
+    (λ c. omega arith) (λ c. omega arith) (λ c. let at-loop = c .before .before .before .before .before .before in let room = at-loop .before .pre .0 in let inv = at-loop .loop .inv in simp length-set (omega arith))  -- w[g + k]
     (λ c. omega arith)  -- k + 1
     (λ c. omega arith)  -- less is left
     loop-again

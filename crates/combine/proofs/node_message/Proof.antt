@@ -45,13 +45,6 @@ add-words-requires-2 c κs =
     let t = turn in-loop in
     subst₂ Added (sym (back-of boxWord (c .box-words2 .ok) (c .box-words2 .ensures) (t .first) (t .left))) (sym (t .right)) (in-loop .before .before .pre .1 .box-sums _ (in-loop .loop-test .taken))
 
-slice-set-from-w-2 : tie.Need-slice-set-from-w-2 Inv-loop μ-loop
-slice-set-from-w-2 c =
-    let at-loop = c .before .before .before .before .before .before .before .before .before in
-    let room = at-loop .before .pre .0 in
-    let inv = at-loop .loop .inv in
-    simp length-set (omega arith)
-
 loop-again : tie.Need-loop-again Inv-loop μ-loop
 loop-again c =
     let low = c .before .before in
@@ -79,7 +72,7 @@ node-message-spec =
     (λ c. omega arith) (λ c. omega arith) (λ c. omega arith)  -- w[m + k]
     box-words-requires-2
     add-words-requires-2
-    (λ c. omega arith) (λ c. omega arith) slice-set-from-w-2  -- w[g + k]
+    (λ c. omega arith) (λ c. omega arith) (λ c. let at-loop = c .before .before .before .before .before .before .before .before .before in let room = at-loop .before .pre .0 in let inv = at-loop .loop .inv in simp length-set (omega arith))  -- w[g + k]
     (λ c. omega arith)  -- k + 1
     (λ c. omega arith)  -- less is left
     loop-again
