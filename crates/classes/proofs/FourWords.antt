@@ -1,9 +1,9 @@
 -- The sizes and signs of four words, as the machine finds them. Assumes nothing.
 use mathlib.Core.Path.{_≡_, refl, sym, ap, ap₂, _∙_, subst}
-use mathlib.Core.Logic.{_⊎_, inl, inr}
 use mathlib.Core.Bool.{Bool, true, false, cond}
-use Prim.Native.Nat.{ℕ, zero, suc, _^_, _≤_, _<_, min, max}
-use native.Mathlib.Nat.{min-eq-left, min-eq-right, max-eq-left, max-eq-right}
+use mathlib.Core.List.{[], _∷_}
+use Prim.Native.Nat.{ℕ, zero, suc, _^_, _<_, min, max}
+use native.Mathlib.Nat.{min-comm}
 use native.Mathlib.Omega.{arith}
 use lib.IntN.{ℤ, pos, negsuc, natAbs, _-ℤ_}
 use lib.Signed.{ltZ, mag, nonNeg}
@@ -13,9 +13,10 @@ use mir.Val.{SFits, Fits}
 use borrow.Author.Tests.{ltb-true, ltb-false, le-ltb}
 use Rattle.model.specs.Soft.{mark, negative}
 use Rattle.words.specs.Words.{xor, Word}
+use Rattle.classes.specs.declared.Gathered.{Gathered}
 use Rattle.classes.specs.LeastSizes.{least, next, parity}
 use Rattle.classes.specs.Folds.{fourList, keepSign}
-use Rattle.classes.proofs.LeastSizes.{either, xor-assoc, xor-false}
+use Rattle.classes.proofs.LeastSizes.{xor-assoc, xor-false, gather-append}
 
 -- ---- the smaller and the larger of two sizes
 pub min-is : {a b : ℤ} {m n : ℕ} → a ≡ pos m → b ≡ pos n → cond (ltZ a b) a b ≡ pos (min m n)
@@ -32,38 +33,29 @@ max-is {a} {b} {m} {n} p q = ap₂ (λ (x y : ℤ). cond (ltZ x y) y x) p q ∙ 
     go true e = ap pos (omega (arith, ltb-true m n e))
     go false e = ap pos (omega (arith, ltb-false m n e))
 
--- ---- four words
-middle : (a b p : ℕ) → min (max b p) (max a (min b p)) ≡ min (max (min a b) p) (max a b)
-middle a b p = go (either b p) (either a b)
-  where
-    go : (b ≤ p) ⊎ (p ≤ b) → (a ≤ b) ⊎ (b ≤ a) → min (max b p) (max a (min b p)) ≡ min (max (min a b) p) (max a b)
-    go (inl p) (inl q) = rw (max-eq-right p, min-eq-left p, max-eq-right q, min-eq-left q) (omega arith)
-    go (inl p) (inr q) = rw (max-eq-right p, min-eq-left p, max-eq-left q, min-eq-right q) (omega arith)
-    go (inr p) (inl q) = rw (max-eq-left p, min-eq-right p, max-eq-right q, min-eq-left q) (omega arith)
-    go (inr p) (inr q) = rw (max-eq-left p, min-eq-right p, max-eq-left q, min-eq-right q) (omega arith)
-
-module _ (a b c d : ℤ) (hd : Word d) where
-  last : min (natAbs d) mark ≡ natAbs d
-  last = omega arith
-
-  pub least-of-four : min (min (natAbs a) (natAbs b)) (min (natAbs c) (natAbs d)) ≡ least (fourList a b c d)
+-- ---- four words, as two pairs
+module _ (a b : ℤ) (ha : Word a) (hb : Word b) where
+  pair-least : least (a ∷ b ∷ []) ≡ min (natAbs a) (natAbs b)
   unfolding least
-  least-of-four = rw last (omega arith)
+  pair-least = omega arith
 
-  pub next-of-four : Word c → min (max (min (natAbs a) (natAbs b)) (min (natAbs c) (natAbs d))) (min (max (natAbs a) (natAbs b)) (max (natAbs c) (natAbs d))) ≡ next (fourList a b c d)
+  pair-next : next (a ∷ b ∷ []) ≡ max (natAbs a) (natAbs b)
   unfolding least next
-  next-of-four hc =
-      let e : min (min mark (max (natAbs d) mark)) (max (natAbs c) (natAbs d)) ≡ max (natAbs c) (natAbs d) = omega arith in
-      rw (last, e)
-      (regroup (max (min (natAbs a) (natAbs b)) (min (natAbs c) (natAbs d))) (max (natAbs a) (natAbs b)) (max (natAbs c) (natAbs d))
-      ∙ ap (min (max (natAbs c) (natAbs d))) (sym (middle (natAbs a) (natAbs b) (min (natAbs c) (natAbs d))))
-      ∙ sym (min-assoc (max (natAbs c) (natAbs d)) (max (natAbs b) (min (natAbs c) (natAbs d))) (max (natAbs a) (min (natAbs b) (min (natAbs c) (natAbs d))))))
-    where
-      regroup : (x y r : ℕ) → min x (min y r) ≡ min r (min x y)
-      regroup x y r = omega arith
+  pair-next =
+      let e : min (natAbs b) mark ≡ natAbs b = omega arith in
+      let f : min mark (max (natAbs b) mark) ≡ mark = omega arith in
+      rw (e, f) (let g : min mark (max (natAbs a) (natAbs b)) ≡ max (natAbs a) (natAbs b) = omega arith in g)
 
-      min-assoc : (r x y : ℕ) → min (min r x) y ≡ min r (min x y)
-      min-assoc r x y = omega arith
+module _ (a b c d : ℤ) (h : Word a × Word b × Word c × Word d) where
+  pub least-of-four : min (min (natAbs a) (natAbs b)) (min (natAbs c) (natAbs d)) ≡ least (fourList a b c d)
+  least-of-four =
+      sym (ap (λ (g : Gathered). g .least) (gather-append (a ∷ b ∷ []) (c ∷ d ∷ [])) ∙ ap₂ min (pair-least a b (h .0) (h .1)) (pair-least c d (h .2) (h .3)))
+
+  pub next-of-four : min (max (min (natAbs a) (natAbs b)) (min (natAbs c) (natAbs d))) (min (max (natAbs a) (natAbs b)) (max (natAbs c) (natAbs d))) ≡ next (fourList a b c d)
+  next-of-four =
+      min-comm (max (min (natAbs a) (natAbs b)) (min (natAbs c) (natAbs d))) (min (max (natAbs a) (natAbs b)) (max (natAbs c) (natAbs d)))
+      ∙ sym (ap (λ (g : Gathered). g .next) (gather-append (a ∷ b ∷ []) (c ∷ d ∷ []))
+      ∙ (λ i. min (min (pair-next a b (h .0) (h .1) i) (pair-next c d (h .2) (h .3) i)) (max (pair-least a b (h .0) (h .1) i) (pair-least c d (h .2) (h .3) i))))
 
 pub parity-of-four : (a b c d : ℤ) → xor (xor (negative a) (negative b)) (xor (negative c) (negative d)) ≡ parity (fourList a b c d)
 unfolding parity

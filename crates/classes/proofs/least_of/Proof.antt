@@ -18,7 +18,7 @@ returns c =
     let sd = back (c .before .before .abs-word4 .ok) ∙ c .before .before .abs-word4 .ensures ∙ ap (λ (z : ℤ). pos (natAbs z)) (toZ-ofZ (s .fits .d)) in
     let low = back (c .before .before .before .before .min-word .ok) ∙ c .before .before .before .before .min-word .ensures ∙ min-is sa sb in
     let low2 = back (c .before .min-word2 .ok) ∙ c .before .min-word2 .ensures ∙ min-is sc sd in
-    back (c .min-word3 .ok) ∙ c .min-word3 .ensures ∙ min-is low low2 ∙ ap pos (least-of-four (s .args .a) (s .args .b) (s .args .c) (s .args .d) (s .pre .3))
+    back (c .min-word3 .ok) ∙ c .min-word3 .ensures ∙ min-is low low2 ∙ ap pos (least-of-four (s .args .a) (s .args .b) (s .args .c) (s .args .d) (s .pre))
 
 pub least-of-spec : {M : Type 1} → statement M
 least-of-spec =

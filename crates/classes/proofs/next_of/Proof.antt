@@ -22,7 +22,7 @@ returns c =
     let high = back (c .before .before .before .max-word2 .ok) ∙ c .before .before .before .max-word2 .ensures ∙ max-is sa sb in
     let high2 = back (c .before .before .max-word3 .ok) ∙ c .before .before .max-word3 .ensures ∙ max-is sc sd in
     let highs = back (c .before .min-word3 .ok) ∙ c .before .min-word3 .ensures ∙ min-is high high2 in
-    back (c .min-word4 .ok) ∙ c .min-word4 .ensures ∙ min-is lows highs ∙ ap pos (next-of-four (s .args .a) (s .args .b) (s .args .c) (s .args .d) (s .pre .3) (s .pre .2))
+    back (c .min-word4 .ok) ∙ c .min-word4 .ensures ∙ min-is lows highs ∙ ap pos (next-of-four (s .args .a) (s .args .b) (s .args .c) (s .args .d) (s .pre))
 
 pub next-of-spec : {M : Type 1} → statement M
 next-of-spec =
