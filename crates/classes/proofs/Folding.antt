@@ -9,7 +9,8 @@ use native.Mathlib.Omega.{arith}
 use lib.IntN.{ℤ, pos}
 use lib.ListN.{length, take, drop, length-drop, take-append-drop}
 use lib.Seq.{length-take-le, getD-take, getD-drop}
-use Rattle.words.specs.Words.{xor, word, write}
+use Rattle.words.specs.Words.{word, write}
+use Rattle.model.specs.Soft.{differ}
 use Rattle.words.proofs.Store.{source-both}
 use Rattle.classes.specs.Sums.{strided}
 use Rattle.classes.specs.LeastSizes.{least, next, parity, gatherOf}
@@ -82,7 +83,7 @@ module _ (p : ℕ) (pos-p : 0 < p) (q : ℕ) (l : List ℤ) (len : length l ≡ 
 
     -- a turn of the loop over the folded quarter
     pub column-turn : (m1 m2 : ℕ) (neg : Bool) (whole : List ℤ) → Gath m1 m2 neg (rest p q l i) whole
-        → Gath (min (least (column l q i)) m1) (min (min m2 (next (column l q i))) (max (least (column l q i)) m1)) (xor (parity (column l q i)) neg) (rest p q l (i + p)) whole
+        → Gath (min (least (column l q i)) m1) (min (min m2 (next (column l q i))) (max (least (column l q i)) m1)) (differ (parity (column l q i)) neg) (rest p q l (i + p)) whole
     column-turn m1 m2 neg whole g =
         gath-part m1 m2 neg (column l q i) (rest p q l i) (rest p q l (i + p)) whole rest-step g
 

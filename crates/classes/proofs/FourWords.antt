@@ -11,12 +11,13 @@ use lib.Dec.{T, ltb}
 use mir.Syntax.{w32}
 use mir.Val.{SFits, Fits}
 use borrow.Author.Tests.{ltb-true, ltb-false, le-ltb}
-use Rattle.model.specs.Soft.{mark, negative}
-use Rattle.words.specs.Words.{xor, Word}
+use Rattle.model.specs.Soft.{mark, negative, differ}
+use Rattle.model.proofs.Algebra.{differ-assoc}
+use Rattle.words.specs.Words.{Word}
 use Rattle.classes.specs.declared.Gathered.{Gathered}
 use Rattle.classes.specs.LeastSizes.{least, next, parity}
 use Rattle.classes.specs.Folds.{fourList, keepSign}
-use Rattle.classes.proofs.LeastSizes.{xor-assoc, xor-false, gather-append}
+use Rattle.classes.proofs.LeastSizes.{differ-false, gather-append}
 
 -- ---- the smaller and the larger of two sizes
 pub min-is : {a b : ℤ} {m n : ℕ} → a ≡ pos m → b ≡ pos n → cond (ltZ a b) a b ≡ pos (min m n)
@@ -57,11 +58,11 @@ module _ (a b c d : ℤ) (h : Word a × Word b × Word c × Word d) where
       ∙ sym (ap (λ (g : Gathered). g .next) (gather-append (a ∷ b ∷ []) (c ∷ d ∷ []))
       ∙ (λ i. min (min (pair-next a b (h .0) (h .1) i) (pair-next c d (h .2) (h .3) i)) (max (pair-least a b (h .0) (h .1) i) (pair-least c d (h .2) (h .3) i))))
 
-pub parity-of-four : (a b c d : ℤ) → xor (xor (negative a) (negative b)) (xor (negative c) (negative d)) ≡ parity (fourList a b c d)
+pub parity-of-four : (a b c d : ℤ) → differ (differ (negative a) (negative b)) (differ (negative c) (negative d)) ≡ parity (fourList a b c d)
 unfolding parity
 parity-of-four a b c d =
-    xor-assoc (negative a) (negative b) (xor (negative c) (negative d))
-    ∙ ap (λ (t : Bool). xor (negative a) (xor (negative b) (xor (negative c) t))) (sym (xor-false (negative d)))
+    differ-assoc (negative a) (negative b) (differ (negative c) (negative d))
+    ∙ ap (λ (t : Bool). differ (negative a) (differ (negative b) (differ (negative c) t))) (sym (differ-false (negative d)))
 
 -- ---- a size with a sign
 pub flip-yes : (z : ℤ) → negative z ≡ true → negsuc 0 -ℤ z ≡ pos (mag z)

@@ -9,26 +9,14 @@ use native.Mathlib.Omega.{arith, min-cases}
 use lib.IntN.{ℤ, natAbs}
 use Rattle.model.proofs.Algebra.{differ-comm, differ-assoc}
 use Rattle.model.specs.Soft.{negative, differ, mark}
-use Rattle.words.specs.Words.{xor, Word}
-use Rattle.words.proofs.Laws.{differ-xor}
+use Rattle.words.specs.Words.{Word}
 use Rattle.classes.specs.declared.Gathered.{Gathered}
 use Rattle.classes.specs.LeastSizes.{least, next, parity, gatherOf}
 
 -- ---- signs and sizes
 
-pub xor-assoc : (a b c : Bool) → xor (xor a b) c ≡ xor a (xor b c)
-xor-assoc a b c =
-    sym (ap (λ (x : Bool). differ x c) (differ-xor a b) ∙ differ-xor (xor a b) c)
-    ∙ differ-assoc a b c ∙ ap (differ a) (differ-xor b c) ∙ differ-xor a (xor b c)
-
-pub xor-comm : (a b : Bool) → xor a b ≡ xor b a
-xor-comm a b = sym (differ-xor a b) ∙ differ-comm a b ∙ differ-xor b a
-
-pub xor-none : (b : Bool) → xor false b ≡ b
-xor-none b = sym (differ-xor false b)
-
-pub xor-false : (a : Bool) → xor a false ≡ a
-xor-false a = xor-comm a false ∙ xor-none a
+pub differ-false : (a : Bool) → differ a false ≡ a
+differ-false a = differ-comm a false
 
 pub least-mark : (l : List ℤ) → least l ≤ mark
 unfolding least
@@ -63,10 +51,10 @@ min-second : (b n p q : ℕ) → min (min b (min n p)) q ≡ min (min b n) (min 
 min-second b n p q = omega arith
 
 abbrev pub join : Gathered → Gathered → Gathered
-join a b = record { least = min (a .least) (b .least); next = min (min (a .next) (b .next)) (max (a .least) (b .least)); neg = xor (a .neg) (b .neg) }
+join a b = record { least = min (a .least) (b .least); next = min (min (a .next) (b .next)) (max (a .least) (b .least)); neg = differ (a .neg) (b .neg) }
 
 join-comm : (a b : Gathered) → join a b ≡ join b a
-join-comm a b = λ i. record { least = min-comm (a .least) (b .least) i; next = min (min-comm (a .next) (b .next) i) (max-comm (a .least) (b .least) i); neg = xor-comm (a .neg) (b .neg) i }
+join-comm a b = λ i. record { least = min-comm (a .least) (b .least) i; next = min (min-comm (a .next) (b .next) i) (max-comm (a .least) (b .least) i); neg = differ-comm (a .neg) (b .neg) i }
 
 join-assoc : (a b c : Gathered) → join (join a b) c ≡ join a (join b c)
 join-assoc a b c =
@@ -74,7 +62,7 @@ join-assoc a b c =
     min-third (min (a .next) (b .next)) (max (a .least) (b .least)) (c .next) (max (min (a .least) (b .least)) (c .least))
     ∙ ap₂ min (min-assoc (a .next) (b .next) (c .next)) (median (a .least) (b .least) (c .least))
     ∙ sym (min-second (a .next) (min (b .next) (c .next)) (max (b .least) (c .least)) (max (a .least) (min (b .least) (c .least)))) in
-    λ i. record { least = min-assoc (a .least) (b .least) (c .least) i; next = n i; neg = xor-assoc (a .neg) (b .neg) (c .neg) i }
+    λ i. record { least = min-assoc (a .least) (b .least) (c .least) i; next = n i; neg = differ-assoc (a .neg) (b .neg) (c .neg) i }
 
 join-pairs : (a b c d : Gathered) → join (join a b) (join c d) ≡ join (join a c) (join b d)
 join-pairs a b c d =
@@ -87,7 +75,7 @@ pub gather-cons : (x : ℤ) (l : List ℤ) → gatherOf (x ∷ l) ≡ join (gath
 unfolding least next parity
 gather-cons x l =
     let e = next-cut (natAbs x) (least l) (next l) mark (least-mark l) (next-mark l) in
-    λ i. record { least = least-cut (natAbs x) (least l) mark (least-mark l) i; next = e i; neg = xor (sym (xor-false (negative x)) i) (parity l) }
+    λ i. record { least = least-cut (natAbs x) (least l) mark (least-mark l) i; next = e i; neg = differ (sym (differ-false (negative x)) i) (parity l) }
   where
     least-cut : (x l m : ℕ) → l ≤ m → min x l ≡ min (min x m) l
     least-cut x l m h = omega arith
@@ -107,7 +95,7 @@ gather-append [] l =
     let b = next-mark l in
     let e : least l ≡ min mark (least l) = omega arith in
     let f : next l ≡ min (min mark (next l)) (max mark (least l)) = omega arith in
-    λ i. record { least = e i; next = f i; neg = sym (xor-none (parity l)) i }
+    λ i. record { least = e i; next = f i; neg = parity l }
 gather-append (x ∷ a) l =
     gather-cons x (a ++ l) ∙ ap (join (gatherOf (x ∷ []))) (gather-append a l) ∙ sym (join-assoc (gatherOf (x ∷ [])) (gatherOf a) (gatherOf l))
     ∙ ap (λ (g : Gathered). join g (gatherOf l)) (sym (gather-cons x a))
@@ -128,26 +116,26 @@ gath-none l = (omega arith, omega arith, sym (gather-append [] l))
 
 -- a turn that takes a part k of the list
 pub gath-part : (m1 m2 : ℕ) (neg : Bool) (k r rest whole : List ℤ) → gatherOf r ≡ join (gatherOf k) (gatherOf rest) → Gath m1 m2 neg r whole
-    → Gath (min (least k) m1) (min (min m2 (next k)) (max (least k) m1)) (xor (parity k) neg) rest whole
+    → Gath (min (least k) m1) (min (min m2 (next k)) (max (least k) m1)) (differ (parity k) neg) rest whole
 gath-part m1 m2 neg k r rest whole e g =
     let a = g .0 in
     let b = g .1 in
     let so-far : Gathered = record { least = m1; next = m2; neg = neg } in (
       omega (arith, a),
       omega (arith, b),
-      (λ i. join (record { least = min (least k) m1; next = min (min-comm m2 (next k) i) (max (least k) m1); neg = xor (parity k) neg }) (gatherOf rest))
+      (λ i. join (record { least = min (least k) m1; next = min (min-comm m2 (next k) i) (max (least k) m1); neg = differ (parity k) neg }) (gatherOf rest))
           ∙ ap (λ (j : Gathered). join j (gatherOf rest)) (join-comm (gatherOf k) so-far)
           ∙ join-assoc so-far (gatherOf k) (gatherOf rest) ∙ ap (join so-far) (sym e) ∙ g .2,
     )
 
 -- a turn that takes one number
-pub gath-turn : (m1 m2 : ℕ) (neg : Bool) (x : ℤ) (rest whole : List ℤ) → Word x → Gath m1 m2 neg (x ∷ rest) whole → Gath (min (natAbs x) m1) (min m2 (max (natAbs x) m1)) (xor (negative x) neg) rest whole
+pub gath-turn : (m1 m2 : ℕ) (neg : Bool) (x : ℤ) (rest whole : List ℤ) → Word x → Gath m1 m2 neg (x ∷ rest) whole → Gath (min (natAbs x) m1) (min m2 (max (natAbs x) m1)) (differ (negative x) neg) rest whole
 unfolding least next parity
 gath-turn m1 m2 neg x rest whole h g =
     let b = g .1 in
     let e : min (natAbs x) mark ≡ natAbs x = omega arith in
     let f : min m2 (min mark (max (natAbs x) mark)) ≡ m2 = omega (arith, b) in
-    rw (e, f, xor-false (negative x)) at (gath-part m1 m2 neg (x ∷ []) (x ∷ rest) rest whole (gather-cons x rest) g)
+    rw (e, f, differ-false (negative x)) at (gath-part m1 m2 neg (x ∷ []) (x ∷ rest) rest whole (gather-cons x rest) g)
 
 pub gath-end : (m1 m2 : ℕ) (neg : Bool) (rest whole : List ℤ) → rest ≡ [] → Gath m1 m2 neg rest whole → _≡_ {A = Gathered} (record { least = m1; next = m2; neg = neg }) (gatherOf whole)
 unfolding least next parity
@@ -156,4 +144,4 @@ gath-end m1 m2 neg rest whole e g =
     let b = g .1 in
     let p : m1 ≡ min m1 mark = omega (arith, a) in
     let q : m2 ≡ min (min m2 mark) (max m1 mark) = omega (arith, a, b) in
-    (λ i. record { least = p i; next = q i; neg = sym (xor-false neg) i }) ∙ ap (λ (r : List ℤ). join (record { least = m1; next = m2; neg = neg }) (gatherOf r)) (sym e) ∙ g .2
+    (λ i. record { least = p i; next = q i; neg = sym (differ-false neg) i }) ∙ ap (λ (r : List ℤ). join (record { least = m1; next = m2; neg = neg }) (gatherOf r)) (sym e) ∙ g .2

@@ -3,8 +3,7 @@ use mathlib.Core.Bool.{Bool, false}
 use mathlib.Core.List.{List, [], _∷_}
 use Prim.Native.Nat.{ℕ, _%_, min, max}
 use lib.IntN.{ℤ, natAbs}
-use Rattle.words.specs.Words.{xor}
-use Rattle.model.specs.Soft.{mark, negative}
+use Rattle.model.specs.Soft.{mark, negative, differ}
 use Rattle.classes.specs.Sums.{strided}
 use Rattle.classes.specs.declared.Gathered.{Gathered}
 use Rattle.classes.specs.declared.ByPlace.{ByPlace}
@@ -20,7 +19,7 @@ next (x ∷ xs) = min (next xs) (max (natAbs x) (least xs))
 
 unfoldable pub parity : List ℤ → Bool
 parity [] = false
-parity (x ∷ xs) = xor (negative x) (parity xs)
+parity (x ∷ xs) = differ (negative x) (parity xs)
 
 -- what is gathered of a list
 abbrev pub gatherOf : List ℤ → Gathered

@@ -13,8 +13,8 @@ use lib.ListN.{length, getD, set, take, drop, length-set, take-append-drop, drop
 use lib.Seq.{drop-cons, drop-drop, take-suc-set, drop-set-lt, length-take-le}
 use Rattle.model.specs.Lists.{bit, over}
 use mir.Val.{boolByte}
-use Rattle.model.specs.Soft.{Soft, finite, certain, wordOf, negative, plus}
-use Rattle.words.specs.Words.{softOf, write, addWord}
+use Rattle.model.specs.Soft.{Soft, finite, certain, wordOf, negative, plus, softOf}
+use Rattle.words.specs.Words.{write, addWord}
 use Rattle.words.proofs.Store.{store-more}
 use Rattle.model.specs.Scan.{hardBit}
 use Rattle.model.specs.Encoding.{isUnfrozen, unfrozen, payloadOf, frozenZero}

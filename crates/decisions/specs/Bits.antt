@@ -7,9 +7,9 @@ use lib.ListN.{length}
 use Rattle.model.specs.Lists.{tabulate}
 use Rattle.model.specs.Encoding.{unfrozen}
 use Rattle.model.specs.Refusals.{exponent}
-use Rattle.model.specs.Soft.{plus}
+use Rattle.model.specs.Soft.{plus, softOf}
 use Rattle.model.specs.Scan.{hardBit}
-use Rattle.words.specs.Words.{word, softOf, Added}
+use Rattle.words.specs.Words.{word, Added}
 
 -- the hard bit at a place, from the LLR and the soft value's word
 abbrev pub decisionAt : List ℤ → List ℤ → ℕ → ℕ

@@ -10,7 +10,7 @@ use lib.Dec.{eqb, leb}
 use lib.IntN.{ℤ, pos, natAbs}
 use lib.ListN.{length, getD, replicate, List·getD-map, length-append}
 use Rattle.model.specs.Lists.{tabulate, over, bit}
-use Rattle.model.specs.Soft.{Soft, finite, softZero, _at_, plus, mark, wordOf, maxLlr}
+use Rattle.model.specs.Soft.{Soft, finite, softZero, _at_, plus, mark, wordOf, maxLlr, softOf}
 use lib.Pow.{pow-mono}
 use Rattle.model.specs.Encoding.{unfrozen, transform, payloadOf, frozenZero}
 use Rattle.model.specs.Scan.{Tree, message, start, toNode, visit, sweeps, scan, hardBit, hardWord, decided, decodeScan}
@@ -21,7 +21,7 @@ use Rattle.model.proofs.Bounds.{soft-under, cap-limit, under-mono}
 use Rattle.model.proofs.Refusals.{refusal-then, passes, llrs-small}
 use Rattle.model.proofs.Theorems.{decision-bound, cycles-most}
 use Rattle.inputs.proofs.Rows.{passed-few}
-use Rattle.words.specs.Words.{word, softOf, write, stored, addWord, Added}
+use Rattle.words.specs.Words.{word, write, stored, addWord, Added}
 use Rattle.words.proofs.Laws.{soft-fin, soft-word, word-in}
 use Rattle.words.proofs.Store.{write-in, length-write}
 use Rattle.scan.specs.Space.{Decodable}

@@ -3,8 +3,8 @@ use mathlib.Core.Bool.{cond}
 use Prim.Native.Nat.{ℕ, _≤_}
 use lib.IntN.{ℤ, natAbs}
 use lib.Dec.{eqb}
-use Rattle.words.specs.Words.{xor, four}
-use Rattle.model.specs.Soft.{negative, signed, mark}
+use Rattle.words.specs.Words.{four}
+use Rattle.model.specs.Soft.{negative, signed, mark, differ}
 use Rattle.classes.specs.declared.Totals.{Totals}
 use Rattle.classes.specs.declared.Gathered.{Gathered}
 use Rattle.classes.specs.declared.ByPlace.{ByPlace}
@@ -18,7 +18,7 @@ gatheredAt g k = four (g .at0) (g .at1) (g .at2) (g .at3) k
 
 -- box over all of a class but a place that holds x, from what was gathered over all
 abbrev pub leaveOut : Gathered → ℤ → ℤ
-leaveOut g x = signed (xor (g .neg) (negative x)) (cond (eqb (natAbs x) (g .least)) (g .next) (g .least))
+leaveOut g x = signed (differ (g .neg) (negative x)) (cond (eqb (natAbs x) (g .least)) (g .next) (g .least))
 
 -- both sizes are those of words
 abbrev pub Sizes : Gathered → Type 0

@@ -5,8 +5,8 @@ ghost use mathlib.Core.Path.{_≡_};
 ghost use mathlib.Core.Bool.{true, cond, _||_};
 ghost use Prim.Native.Nat.{_+_, _<_, _≤_};
 ghost use lib.Dec.{T};
-ghost use lib.ListN.{length, take, drop};
-ghost use Rattle.model.specs.Lists.{same};
+ghost use lib.ListN.{length};
+ghost use Rattle.model.specs.Lists.{same, part};
 ghost use Rattle.model.specs.Encoding.{isUnfrozen, frozenToZero};
 ghost use Rattle.model.specs.Kinds.{rate-0, rate-1, kindOf, isSome, isKind, onlyFirst};
 ghost use Rattle.model.specs.Plans.{isCut, isRate01, cutCycles};
@@ -168,8 +168,8 @@ pub struct Fixed {
 // A cut rate-0 node's message is certain, a cut rate-1 node's is 0. Node q has s positions from b on.
 pub fn fixed_message(plan: &[u8], mask: &[u8], q: usize, b: usize, s: usize) -> Fixed
     requires { ⌜ (q < length (now plan)) × (b + s ≤ length (now mask)) ⌝ }
-    requires { ⌜ (isCut (now plan) q ≡ true → T (isSome (kindOf s (take s (drop b (now mask)))))) ⌝ }
-    ensures { λ r. ⌜ FixedAs (now (plan .entry)) s q (take s (drop b (now (mask .entry)))) (r .certain) (r .zero) ⌝ }
+    requires { ⌜ (isCut (now plan) q ≡ true → T (isSome (kindOf s (part (now mask) b s)))) ⌝ }
+    ensures { λ r. ⌜ FixedAs (now (plan .entry)) s q (part (now (mask .entry)) b s) (r .certain) (r .zero) ⌝ }
 {
     if plan[q] == 1 {
         let e = b + s;

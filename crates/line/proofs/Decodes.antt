@@ -11,7 +11,7 @@ use lib.IntN.{ℤ}
 use lib.ListN.{length, take, drop, length-map, length-take}
 use lib.Seq.{take-at}
 use Rattle.model.specs.Lists.{over}
-use Rattle.model.specs.Soft.{Soft, finite, wordOf, _at_}
+use Rattle.model.specs.Soft.{Soft, finite, wordOf, _at_, softOf}
 use Rattle.model.specs.Encoding.{unfrozen, transform, payloadOf}
 use Rattle.model.specs.Scan.{scan, hardWord, decided, Decoded, decodeScan}
 use Rattle.model.specs.Bounds.{Under, limit}
@@ -20,7 +20,6 @@ use Rattle.model.specs.Refusals.{exponent, maxSweeps, planNumber, DecodeCall, d
 use Rattle.model.proofs.Lists.{T-true, true-T, length-tabulate}
 use Rattle.model.proofs.Bounds.{soft-under, cap-limit, under-mono}
 use Rattle.model.proofs.Refusals.{pass, none-left, exponent-power, llrs-small}
-use Rattle.words.specs.Words.{softOf}
 use Rattle.decode.specs.Calls.{Lent, given, callOf, Outcome}
 use Rattle.decode.proofs.Answers.{scan-length}
 use Rattle.reader.specs.Steps.{Fit}

@@ -9,12 +9,12 @@ use lib.IntN.{ℤ, pos, natAbs, _-ℤ_}
 use lib.ListN.{length}
 use lib.Dec.{eqb, eqb·suc-suc, eqb·suc-zero, eqb·zero-suc}
 use Rattle.model.specs.Lists.{total}
-use Rattle.model.specs.Soft.{Soft, finite, certain, softZero, _at_, box, plus, negative, signed, wordOf}
+use Rattle.model.specs.Soft.{Soft, finite, certain, softZero, _at_, box, plus, negative, signed, wordOf, differ}
 use Rattle.model.specs.Kinds.{others}
 use Rattle.model.proofs.Lists.{Monoid, total-ext, and-true}
 use Rattle.model.proofs.Algebra.{plus-monoid, box-monoid, signed-zero}
 use Rattle.model.proofs.Bounds.{abs-signed}
-use Rattle.words.specs.Words.{xor, Word, word}
+use Rattle.words.specs.Words.{Word, word}
 use Rattle.words.proofs.Laws.{boxZ, boxℤ-is, box-mark-l, box-mark-r}
 use Rattle.classes.specs.Sums.{strided, sumZ, sizes, sumOf}
 use Rattle.classes.specs.LeastSizes.{least, next, parity, gatherClass}
@@ -110,8 +110,8 @@ enc-box (finite a) certain ha hb = sym (box-mark-r a ha)
 enc-box (finite a) (finite b) ha hb = boxℤ-is a b
 
 -- the sign of a 0 does not matter
-sign-min : (a p : Bool) (n m : ℕ) → signed (xor a (negative (signed p m))) (min n m) ≡ signed (xor a p) (min n m)
-sign-min a true n zero = let e : min n 0 ≡ 0 = omega arith in rw e (signed-zero (xor a false) ∙ sym (signed-zero (xor a true)))
+sign-min : (a p : Bool) (n m : ℕ) → signed (differ a (negative (signed p m))) (min n m) ≡ signed (differ a p) (min n m)
+sign-min a true n zero = let e : min n 0 ≡ 0 = omega arith in rw e (signed-zero (differ a false) ∙ sym (signed-zero (differ a true)))
 sign-min a true n (suc m) = refl
 sign-min a false n m = refl
 
@@ -124,7 +124,7 @@ boxes =
       more = λ x v t h r.
           enc-box (finite x) v h (rw (r, abs-signed (parity t) (least t)) (least-mark t))
           ∙ ap (boxZ x) r
-          ∙ ap (λ (m : ℕ). signed (xor (negative x) (negative (signed (parity t) (least t)))) (min (natAbs x) m)) (abs-signed (parity t) (least t))
+          ∙ ap (λ (m : ℕ). signed (differ (negative x) (negative (signed (parity t) (least t)))) (min (natAbs x) m)) (abs-signed (parity t) (least t))
           ∙ sign-min (negative x) (parity t) (natAbs x) (least t);
     }
 
@@ -151,5 +151,5 @@ module _ (p : ℕ) (pos-p : 0 < p) (s : ℕ) (l : List ℤ) (len : length l ≡ 
   pub box-value : leaveOut (gatherClass p l (k % p)) (word l k) ≡ wordOf (others box certain p s L k)
   box-value =
       sym (others-is boxes p pos-p s l len L same ws k
-      ∙ ap₂ signed (parity-without (k / p) class in-class ∙ ap (λ (z : ℤ). xor (parity class) (negative z)) own-at)
+      ∙ ap₂ signed (parity-without (k / p) class in-class ∙ ap (λ (z : ℤ). differ (parity class) (negative z)) own-at)
       (least-without (k / p) class in-class ∙ ap (λ (z : ℤ). cond (eqb (natAbs z) (least class)) (next class) (least class)) own-at))

@@ -10,11 +10,11 @@ use lib.ListN.{length}
 use lib.Dec.{eqb}
 use borrow.Author.Tests.{eqb-true, eqb-false}
 use Rattle.model.proofs.Bounds.{abs-plus}
-use Rattle.model.specs.Soft.{negative}
-use Rattle.words.specs.Words.{xor, word}
+use Rattle.model.specs.Soft.{negative, differ}
+use Rattle.words.specs.Words.{word}
 use Rattle.classes.specs.Sums.{sumZ, sizes}
 use Rattle.classes.specs.LeastSizes.{least, next, parity}
-use Rattle.classes.proofs.LeastSizes.{xor-assoc}
+use Rattle.model.proofs.Algebra.{differ-assoc}
 
 -- the list without its element at k
 unfoldable pub without : {A : Type 0} → ℕ → List A → List A
@@ -43,18 +43,18 @@ sum-without (suc k) (x ∷ xs) h =
 
 -- ---- signs and sizes
 
-xor-twice : (a b : Bool) → b ≡ xor (xor a b) a
-xor-twice true true = refl
-xor-twice true false = refl
-xor-twice false true = refl
-xor-twice false false = refl
+differ-twice : (a b : Bool) → b ≡ differ (differ a b) a
+differ-twice true true = refl
+differ-twice true false = refl
+differ-twice false true = refl
+differ-twice false false = refl
 
-pub parity-without : (k : ℕ) (l : List ℤ) → k < length l → parity (without k l) ≡ xor (parity l) (negative (word l k))
+pub parity-without : (k : ℕ) (l : List ℤ) → k < length l → parity (without k l) ≡ differ (parity l) (negative (word l k))
 unfolding without parity
 parity-without k [] h = absurd (not-suc-le-zero h)
-parity-without zero (x ∷ xs) h = xor-twice (negative x) (parity xs)
+parity-without zero (x ∷ xs) h = differ-twice (negative x) (parity xs)
 parity-without (suc k) (x ∷ xs) h =
-    ap (xor (negative x)) (parity-without k xs (le-of-suc-le-suc h)) ∙ sym (xor-assoc (negative x) (parity xs) (negative (word xs k)))
+    ap (differ (negative x)) (parity-without k xs (le-of-suc-le-suc h)) ∙ sym (differ-assoc (negative x) (parity xs) (negative (word xs k)))
 
 pub least-next : (l : List ℤ) → least l ≤ next l
 unfolding least next

@@ -6,6 +6,7 @@ use classes::gather_all_folded;
 use extrinsic::spread;
 use extrinsic::subtract;
 use kinds::Kind;
+use words::MARK;
 use words::fill;
 ghost use mathlib.Core.Path.{_≡_};
 ghost use mathlib.Core.Bool.{false};
@@ -24,7 +25,7 @@ pub fn rate_zero_message(w: &mut [i32], m: usize, s: usize)
     requires { ⌜ m + s ≤ length (now w) ⌝ }
     ensures { λ _. ⌜ ((L : List Soft) → now (w .exit) ≡ stored (now (w .entry)) m s (shortcut rate-0 s L)) ⌝ }
 {
-    fill(w, m, s, 2147483647);
+    fill(w, m, s, MARK);
 }
 
 // The message of a rate-1 node: 0 everywhere, whatever its incoming list L is.

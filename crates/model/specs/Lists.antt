@@ -3,7 +3,7 @@ use Prim.Native.Nat.{ℕ, zero, suc}
 use mathlib.Core.Bool.{Bool, true, false, _&&_}
 use mathlib.Core.List.{List, [], _∷_, _++_}
 use lib.Dec.{eqb, leb}
-use lib.ListN.{drop, length}
+use lib.ListN.{take, drop, length}
 
 -- f 0, f 1, .. f (n - 1)
 unfoldable pub tabulate {ℓ} : {A : Type ℓ} → ℕ → (ℕ → A) → List A
@@ -40,3 +40,7 @@ bit false = 0
 -- a buffer after its front was overwritten: a longer one keeps its tail
 unfoldable pub over : {A : Type 0} → List A → List A → List A
 over new old = new ++ drop (length new) old
+
+-- the s elements of a list from b on
+abbrev pub part : {A : Type 0} → List A → ℕ → ℕ → List A
+part l b s = take s (drop b l)

@@ -1,7 +1,8 @@
 -- Soft values: a whole number, or certain (∞). Assumes nothing.
 use Prim.Native.Nat.{ℕ, min}
-use mathlib.Core.Bool.{Bool, true, false, not}
+use mathlib.Core.Bool.{Bool, true, false, cond, not}
 use mathlib.Core.List.{List}
+use lib.Dec.{eqb}
 use lib.ListN.{getD}
 use lib.IntN.{ℤ, pos, negsuc, negℤ, natAbs, _+ℤ_}
 
@@ -59,3 +60,8 @@ mark = 2147483647
 abbrev pub wordOf : Soft → ℤ
 wordOf (finite z) = z
 wordOf certain = pos mark
+
+-- the soft value of a word
+abbrev pub softOf : ℤ → Soft
+softOf (pos n) = cond (eqb n mark) certain (finite (pos n))
+softOf (negsuc n) = finite (negsuc n)

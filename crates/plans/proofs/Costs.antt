@@ -13,7 +13,8 @@ use Rattle.model.specs.Kinds.{Kind, kindOf, isSome}
 use Rattle.model.specs.Plans.{isCut, isRate01, cutCycles, edgeCycles, cycles}
 use Rattle.model.proofs.Lists.{cond-both}
 use Rattle.model.proofs.Cycles.{cycles-cut, own-bound}
-use Rattle.plans.specs.Nodes.{part, Span, wellMet, cutsMet, Costs}
+use Rattle.model.specs.Lists.{part}
+use Rattle.plans.specs.Nodes.{Span, wellMet, cutsMet, Costs}
 use Rattle.plans.proofs.Parts.{twice, half, at-zero, at-suc, place-l, place-r}
 use Rattle.plans.proofs.Cuts.{met-small}
 

@@ -18,10 +18,6 @@ pub record Node (t p m l : ℕ) : Type 0 where
   pub low : t ≤ 10
   pub place : Place t p l
 
--- s positions of a mask, from b on
-abbrev pub part : List ℕ → ℕ → ℕ → List ℕ
-part mask b s = take s (drop b mask)
-
 -- node p of stage t has the s positions of the mask from b on, and its bytes in the plan
 pub record Span (t p b s : ℕ) (mask plan : List ℕ) : Type 0 where
   pub size : s ≡ 2 ^ t

@@ -12,12 +12,12 @@ ghost use mathlib.Core.Bool.{cond, _&&_};
 ghost use Prim.Native.Nat.{_+_, _*_, _≤_, _<_, _^_};
 ghost use lib.Dec.{T, eqb};
 ghost use lib.ListN.{length, getD};
-ghost use Rattle.model.specs.Lists.{atMost};
+ghost use Rattle.model.specs.Lists.{atMost, part};
 ghost use Rattle.model.specs.Kinds.{isSome};
 ghost use Rattle.model.specs.Plans.{isRate01, cutCycles};
 ghost use Rattle.model.specs.Refusals.{checkNumber, checkCycles};
 ghost use Rattle.kinds.specs.Runs.{kindNamed};
-ghost use Rattle.plans.specs.Nodes.{Span, part, byteSum, Costs};
+ghost use Rattle.plans.specs.Nodes.{Span, byteSum, Costs};
 ghost use Rattle.plans.specs.Faults.{faultNumber, faultCycles};
 
 // What the check finds at a node: whether each path from it down has a cut, the first at a node of some kind; the number of those first cuts;

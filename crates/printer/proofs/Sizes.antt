@@ -9,9 +9,8 @@ use lib.IntN.{ℤ, pos, negsuc}
 use lib.ListN.{length, length-append, length-map}
 use lib.Signed.{mag}
 use borrow.Author.Tests.{ltb-true, ltb-false}
-use Rattle.model.specs.Soft.{finite, certain, mark}
+use Rattle.model.specs.Soft.{finite, certain, mark, softOf}
 use Rattle.model.specs.Scan.{Decoded}
-use Rattle.words.specs.Words.{softOf}
 use Rattle.printer.specs.Text.{natText, intText, softText, bitText, bitsText, payloadText, spaced, okText, noText}
 use Rattle.printer.proofs.Texts.{nat-small, nat-large, okPieces, ok-pieces, no-pieces}
 

@@ -13,9 +13,8 @@ use lib.Signed.{ltZ}
 use borrow.Author.Tests.{lt-ltb, le-ltb, ltb-true, ltb-false, eq-eqb, ne-eqb}
 use mir.Syntax.{w32}
 use mir.Val.{SFits, ofZ}
-use Rattle.model.specs.Soft.{mark}
+use Rattle.model.specs.Soft.{mark, softOf}
 use Rattle.model.specs.Scan.{Decoded}
-use Rattle.words.specs.Words.{softOf}
 use Rattle.printer.specs.Text.{inf, digitsIn, natText, intText, softText, bitText, bitsText, payloadText, spaced, lineText, okFields, okText, noText}
 
 -- ---- decimal digits

@@ -9,11 +9,10 @@ use lib.ListN.{length, take, drop, take-append-drop}
 use lib.Seq.{sets, length-sets, take-at, take-all, length-take-le}
 use borrow.Author.Tests.{leb-true, leb-false}
 use Rattle.model.specs.Lists.{over}
-use Rattle.model.specs.Soft.{Soft, _at_, wordOf}
+use Rattle.model.specs.Soft.{Soft, _at_, wordOf, softOf}
 use Rattle.model.specs.Bounds.{Under, limit}
 use Rattle.fields.proofs.Stores.{sets-over}
 use Rattle.printer.specs.Put.{Put, Printed}
-use Rattle.words.specs.Words.{softOf}
 use Rattle.words.proofs.Laws.{soft-word}
 use Rattle.printer.proofs.Puts.{sets-append, sets-out}
 

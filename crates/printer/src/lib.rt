@@ -1,12 +1,13 @@
 // Prints the program's answer into a buffer that the caller lends. Text that has no room is left out.
+use words::MARK;
 ghost use mathlib.Core.Path.{_≡_};
 ghost use mathlib.Core.List.{[], _∷_, map};
 ghost use Prim.Native.Nat.{_+_, _*_, _<_, _≤_};
 ghost use lib.IntN.{natAbs};
 ghost use lib.ListN.{length};
-ghost use Rattle.words.specs.Words.{softOf};
 ghost use Rattle.printer.specs.Text.{natText, intText, softText, bitText, bitsText, payloadText, spaced, okText, noText, decoded};
 ghost use Rattle.printer.specs.Put.{Put, Printed};
+ghost use Rattle.model.specs.Soft.{softOf};
 
 // One byte, if there is room. Each function answers where its text ends.
 fn put_byte(b: u8, out: &mut [u8], at: usize) -> usize
@@ -73,7 +74,7 @@ fn put_soft(z: i32, out: &mut [u8], at: usize) -> usize
     ensures { λ r. ⌜ Put (32 ∷ softText (softOf z)) (now (out .entry)) at (now (out .exit)) r ⌝ }
 {
     let e = put_byte(b' ', out, at);
-    if z == 2147483647 {
+    if z == MARK {
         return put_three(b'i', b'n', b'f', out, e);
     }
     put_decimal(z, out, e)

@@ -9,8 +9,8 @@ use native.Mathlib.Nat.{mul-comm, mul-le-mul-right}
 use native.Mathlib.Omega.{arith}
 use lib.Dec.{T}
 use lib.ListN.{length, take, drop}
-use Rattle.model.specs.Lists.{tabulate}
-use Rattle.model.specs.Soft.{Soft, certain, softZero, _at_, box, plus, mark, wordOf}
+use Rattle.model.specs.Lists.{tabulate, part}
+use Rattle.model.specs.Soft.{Soft, certain, softZero, _at_, box, plus, mark, wordOf, softOf}
 use Rattle.model.specs.Scan.{leaf}
 use Rattle.model.specs.Kinds.{isSome, isKind, Kind, rate-0, rate-1, REP, SPC, type-I, type-III, kindOf, shortcut, others}
 use Rattle.model.specs.Plans.{isRate01, isCut, wellCut, putKind, put}
@@ -19,12 +19,12 @@ use Rattle.model.proofs.Lists.{T-true, absurd-bool, double, tabulate-ext, getD-
 use Rattle.model.proofs.PlannedWalk.{walk-cut}
 use Rattle.model.proofs.Paths.{wellCut-cut}
 use Rattle.model.proofs.Bounds.{shortcut-under, under-mono}
-use Rattle.words.specs.Words.{word, softOf, soft, write, stored, Incoming}
+use Rattle.words.specs.Words.{word, soft, write, stored, Incoming}
 use Rattle.words.proofs.Laws.{soft-word, soft-at, small-size}
 use Rattle.words.proofs.Store.{write-ext}
 use Rattle.messages.proofs.Messages.{zero-value, rate-one-value}
 use Rattle.kinds.specs.Known.{FixedAs}
-use Rattle.scan.specs.Space.{constant, treeAt, begun, part, Room, Visited}
+use Rattle.scan.specs.Space.{constant, treeAt, begun, Room, Visited}
 use Rattle.messages.specs.Cut.{cutWords}
 use Rattle.scan.proofs.Begun.{begun-put}
 use Rattle.scan.proofs.Known.{both-true, is-kind}
@@ -69,14 +69,14 @@ module _ (plan mask : List ℕ) (N t s p b x : ℕ) (first : Bool) (w v : List �
       omega (arith, room .limited, mul-comm (2 ^ t) (room .bound))
 
   -- a kind's message stays within the limit
-  message-limit : (k : Kind) → kindOf (2 ^ t) (part mask b t) ≡ some k → (j : ℕ) → j < 2 ^ t → Under limit (shortcut k (2 ^ t) L at j)
+  message-limit : (k : Kind) → kindOf (2 ^ t) (part mask b (2 ^ t)) ≡ some k → (j : ℕ) → j < 2 ^ t → Under limit (shortcut k (2 ^ t) L at j)
   unfolding shortcut
   message-limit k e = go k refl
     where
-      looked : (k : Kind) → kindOf (2 ^ t) (part mask b t) ≡ some k → isRate01 (some k) ≡ false → (j : ℕ) → j < 2 ^ t → Under limit (shortcut k (2 ^ t) L at j)
+      looked : (k : Kind) → kindOf (2 ^ t) (part mask b (2 ^ t)) ≡ some k → isRate01 (some k) ≡ false → (j : ℕ) → j < 2 ^ t → Under limit (shortcut k (2 ^ t) L at j)
       looked k e q j lt =
           under-mono (shortcut k (2 ^ t) L at j) cap-top
-          (shortcut-under t (room .bound) (part mask b t) k L e (room .small (ap₂ (λ (x y : Bool). x && y) yes (ap isRate01 e ∙ q))) j lt)
+          (shortcut-under t (room .bound) (part mask b (2 ^ t)) k L e (room .small (ap₂ (λ (x y : Bool). x && y) yes (ap isRate01 e ∙ q))) j lt)
 
       go : (x : Kind) → k ≡ x → (j : ℕ) → j < 2 ^ t → Under limit (shortcut k (2 ^ t) L at j)
       go rate-0 p j lt = subst (λ (y : Kind). Under limit (shortcut y (2 ^ t) L at j)) (sym p) (rw (getD-tabulate (2 ^ t) (λ i. certain) j softZero lt) tt)
@@ -86,7 +86,7 @@ module _ (plan mask : List ℕ) (N t s p b x : ℕ) (first : Bool) (w v : List �
       go type-I p j lt = looked k e (ap (λ (y : Kind). isRate01 (some y)) p) j lt
       go type-III p j lt = looked k e (ap (λ (y : Kind). isRate01 (some y)) p) j lt
 
-  read-back : (k : Kind) → kindOf (2 ^ t) (part mask b t) ≡ some k → v ≡ stored w (t * N + b) (2 ^ t) (shortcut k (2 ^ t) L) → soft v (t * N + b) (2 ^ t) ≡ shortcut k (2 ^ t) L
+  read-back : (k : Kind) → kindOf (2 ^ t) (part mask b (2 ^ t)) ≡ some k → v ≡ stored w (t * N + b) (2 ^ t) (shortcut k (2 ^ t) L) → soft v (t * N + b) (2 ^ t) ≡ shortcut k (2 ^ t) L
   unfolding soft
   read-back k e q =
       tabulate-ext (2 ^ t) _ (λ j. shortcut k (2 ^ t) L at j) (λ j lt.
@@ -94,20 +94,20 @@ module _ (plan mask : List ℕ) (N t s p b x : ℕ) (first : Bool) (w v : List �
       ∙ soft-word limit (shortcut k (2 ^ t) L at j) (omega arith) (message-limit k e j lt))
       ∙ sym (shortcut-list k (2 ^ t) L)
 
-  pub visited-cut : v ≡ cutWords (kindOf (2 ^ t) (part mask b t)) w (t * N + b) x s → Visited plan mask N t p b x first w v
+  pub visited-cut : v ≡ cutWords (kindOf (2 ^ t) (part mask b (2 ^ t))) w (t * N + b) x s → Visited plan mask N t p b x first w v
   visited-cut q =
-      go (kindOf (2 ^ t) (part mask b t)) refl (wellCut-cut plan t p (part mask b t) yes (room .cuts))
-      (q ∙ ap (λ (z : ℕ). cutWords (kindOf (2 ^ t) (part mask b t)) w (t * N + b) x z) (room .size))
+      go (kindOf (2 ^ t) (part mask b (2 ^ t))) refl (wellCut-cut plan t p (part mask b (2 ^ t)) yes (room .cuts))
+      (q ∙ ap (λ (z : ℕ). cutWords (kindOf (2 ^ t) (part mask b (2 ^ t))) w (t * N + b) x z) (room .size))
     where
-      go : (o : Option Kind) → kindOf (2 ^ t) (part mask b t) ≡ o → T (isSome o) → v ≡ cutWords (kindOf (2 ^ t) (part mask b t)) w (t * N + b) x (2 ^ t) → Visited plan mask N t p b x first w v
+      go : (o : Option Kind) → kindOf (2 ^ t) (part mask b (2 ^ t)) ≡ o → T (isSome o) → v ≡ cutWords (kindOf (2 ^ t) (part mask b (2 ^ t))) w (t * N + b) x (2 ^ t) → Visited plan mask N t p b x first w v
       go none e k r = absurd k
       go (some k) e y r =
           let r′ : v ≡ stored w (t * N + b) (2 ^ t) (shortcut k (2 ^ t) L) = r ∙ ap (λ (o : Option Kind). cutWords o w (t * N + b) x (2 ^ t)) e in
           record {
             tree = put-tree N t b x w v (shortcut k (2 ^ t) L) (fit-room room) r′ (read-back k e r′)
-                ∙ sym (walk-cut plan t p (part mask b t) (begun first plan t p (part mask b t) (treeAt N w t b)) L yes
-                ∙ ap (λ (o : Option Kind). putKind o (2 ^ t) L (begun first plan t p (part mask b t) (treeAt N w t b))) e
-                ∙ begun-put first plan N w t p b (part mask b t) (shortcut k (2 ^ t) L) yes);
+                ∙ sym (walk-cut plan t p (part mask b (2 ^ t)) (begun first plan t p (part mask b (2 ^ t)) (treeAt N w t b)) L yes
+                ∙ ap (λ (o : Option Kind). putKind o (2 ^ t) L (begun first plan t p (part mask b (2 ^ t)) (treeAt N w t b))) e
+                ∙ begun-put first plan N w t p b (part mask b (2 ^ t)) (shortcut k (2 ^ t) L) yes);
             kept = kept-row N t b x w v _ (fit-room room) (t * N + b) (2 ^ t) r′ (omega arith) (omega arith);
           }
 
@@ -116,7 +116,7 @@ pub not-leaf : (plan : List ℕ) (t p : ℕ) (mask : List ℕ) → T (wellCut pl
 not-leaf plan zero p mask w uncut e = absurd-bool (isCut plan p) (leaf-cut plan p mask w) uncut
 not-leaf plan (suc t) p mask w uncut e = omega arith
 
-pub kind-stage : (mask : List ℕ) (b s t : ℕ) → s ≡ 2 ^ t → kindOf s (take s (drop b mask)) ≡ kindOf (2 ^ t) (part mask b t)
+pub kind-stage : (mask : List ℕ) (b s t : ℕ) → s ≡ 2 ^ t → kindOf s (take s (drop b mask)) ≡ kindOf (2 ^ t) (part mask b (2 ^ t))
 kind-stage mask b s t size = ap (λ (k : ℕ). kindOf k (take k (drop b mask))) size
 
 -- a node whose message is fixed, in the code's terms
@@ -136,7 +136,7 @@ visited-fixed {plan} {mask} {N} {t} {s} {p} {b} {x} {first} {w} {v} room a z f s
     go false false c d q e = absurd (subst T (sym q) tt)
 
 -- what the message of a cut node requires of its incoming list
-pub incoming : {plan mask : List ℕ} {N t s p b x : ℕ} {first : Bool} {w : List ℤ} → Room plan mask N t s p b x first w → constant plan (2 ^ t) p (part mask b t) ≡ false → Incoming w x s
+pub incoming : {plan mask : List ℕ} {N t s p b x : ℕ} {first : Bool} {w : List ℤ} → Room plan mask N t s p b x first w → constant plan (2 ^ t) p (part mask b (2 ^ t)) ≡ false → Incoming w x s
 incoming {t = t} {s = s} {x = x} {w = w} room q = record {
   bound = room .bound;
   small = λ k lt. small-size (room .bound) (word w (x + k)) (subst (Small (room .bound)) (soft-at w x (2 ^ t) k (omega (arith, room .size))) (room .small q k (omega (arith, room .size))));

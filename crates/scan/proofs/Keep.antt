@@ -8,13 +8,14 @@ use native.Mathlib.Nat.{eq-or-lt-of-le, mul-le-mul-right, suc-mul, mul-add, mul-
 use native.Mathlib.Omega.{arith}
 use lib.ListN.{length, take, drop, getD}
 use lib.Seq.{take-take, drop-drop}
-use Rattle.model.specs.Soft.{Soft, _at_}
+use Rattle.model.specs.Soft.{Soft, _at_, softOf}
 use Rattle.model.specs.Scan.{Tree, leaf, node, message}
 use Rattle.model.proofs.Lists.{double, tabulate-ext}
-use Rattle.words.specs.Words.{word, softOf, soft, write}
+use Rattle.words.specs.Words.{word, soft, write}
 use Rattle.words.proofs.Laws.{soft-at}
 use Rattle.words.proofs.Store.{length-write, write-in, source-below, source-above}
-use Rattle.scan.specs.Space.{treeAt, part, Kept}
+use Rattle.model.specs.Lists.{part}
+use Rattle.scan.specs.Space.{treeAt, Kept}
 
 pub record Fit (N t b x len : ℕ) : Type 0 where
   pub fit : x + (2 ^ t + 2 ^ t) ≤ len
@@ -138,10 +139,10 @@ drop-take zero n l = ap (λ (k : ℕ). take k l) (let e : 0 + n ≡ n = omega ar
 drop-take (suc m) n [] = ap (drop (suc m)) (take-none (suc m + n)) ∙ sym (take-none n)
 drop-take (suc m) n (x ∷ l) = ap (λ (k : ℕ). drop (suc m) (take k (x ∷ l))) (let e : suc m + n ≡ suc (m + n) = omega arith in e) ∙ drop-take m n l
 
-pub part-left : (mask : List ℕ) (b t : ℕ) → take (2 ^ t) (part mask b (suc t)) ≡ part mask b t
+pub part-left : (mask : List ℕ) (b t : ℕ) → take (2 ^ t) (part mask b (2 ^ suc t)) ≡ part mask b (2 ^ t)
 part-left mask b t = take-take (2 ^ t) (2 ^ suc t) (drop b mask) (omega (arith, double t))
 
-pub part-right : (mask : List ℕ) (b t : ℕ) → drop (2 ^ t) (part mask b (suc t)) ≡ part mask (b + 2 ^ t) t
+pub part-right : (mask : List ℕ) (b t : ℕ) → drop (2 ^ t) (part mask b (2 ^ suc t)) ≡ part mask (b + 2 ^ t) (2 ^ t)
 part-right mask b t =
     ap (λ (n : ℕ). drop (2 ^ t) (take n (drop b mask))) (double t)
     ∙ drop-take (2 ^ t) (2 ^ t) (drop b mask)

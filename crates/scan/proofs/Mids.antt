@@ -8,18 +8,19 @@ use native.Mathlib.Nat.{suc-mul}
 use native.Mathlib.Omega.{arith}
 use lib.ListN.{length}
 use mathlib.Core.Bool.{Bool}
-use Rattle.model.specs.Soft.{Soft, softZero, _at_, box, plus, mark, wordOf}
+use Rattle.model.specs.Soft.{Soft, softZero, _at_, box, plus, mark, wordOf, softOf}
 use Rattle.model.specs.Scan.{Tree, message, toLeft, toRight}
 use Rattle.model.specs.Plans.{walk}
 use Rattle.model.specs.Bounds.{limit, Small, Under, SmallAll, UnderAll, cap}
 use Rattle.model.proofs.Lists.{double, tabulate-ext}
 use Rattle.model.proofs.Algebra.{plus-comm, plus-zero-r}
 use Rattle.model.proofs.Bounds.{small-box, small-plus, under-box, under-plus, under-mono, small-mono}
-use Rattle.words.specs.Words.{Word, Added, word, softOf, soft, write, Holds, boxWord, addWord, Words}
+use Rattle.words.specs.Words.{Word, Added, word, soft, write, Holds, boxWord, addWord, Words}
 use Rattle.halves.specs.Halves.{boxAt, boxPlus, plusBox, Sums, BoxSums, FiniteBoxSums, InRange, lowHalf, highHalf}
 use Rattle.words.proofs.Laws.{word-soft, soft-at, small-under, small-size, under-word, soft-box, soft-add, add-word}
 use Rattle.words.proofs.Store.{source-below}
-use Rattle.scan.specs.Space.{treeAt, begun, part, Kept, Visited}
+use Rattle.model.specs.Lists.{part}
+use Rattle.scan.specs.Space.{treeAt, begun, Kept, Visited}
 use Rattle.scan.proofs.Keep.{Fit, kept-refl, kept-trans, kept-scratch, kept-row, kept-child, fit-kept, tree-cong, message-at, under, stored-at}
 
 -- a word of a value within `limit`, and of a finite one
@@ -114,19 +115,19 @@ module _ {N t b x : ℕ} {w v : List ℤ} {A B : Tree} (begin : Visiting N t b x
   -- a visit of the left child, of the right child
   module _ (plan mask : List ℕ) (p : ℕ) (first : Bool) (z : List ℤ) where
     pub mid-left : Visited plan mask N t p b c first v z
-        → Mid N t b x w z (walk plan t p (part mask b t) (begun first plan t p (part mask b t) A) (soft v c (2 ^ t))) B
+        → Mid N t b x w z (walk plan t p (part mask b (2 ^ t)) (begun first plan t p (part mask b (2 ^ t)) A) (soft v c (2 ^ t))) B
     mid-left s = record {
       kept = kept-trans (m .kept) (kept-child N t b x b v z (omega arith) (omega arith) (fit .rows) (s .kept));
-      lefts = s .tree ∙ ap (λ (T : Tree). walk plan t p (part mask b t) (begun first plan t p (part mask b t) T) (soft v c (2 ^ t))) (m .lefts);
+      lefts = s .tree ∙ ap (λ (T : Tree). walk plan t p (part mask b (2 ^ t)) (begun first plan t p (part mask b (2 ^ t)) T) (soft v c (2 ^ t))) (m .lefts);
       rights = tree-cong N t (b + 2 ^ t) v z (λ u i le low high. s .kept .rows u i le (omega (arith, fit .within, twice)) (inr low)) ∙ m .rights;
     }
 
     pub mid-right : Visited plan mask N t p (b + 2 ^ t) c first v z
-        → Mid N t b x w z A (walk plan t p (part mask (b + 2 ^ t) t) (begun first plan t p (part mask (b + 2 ^ t) t) B) (soft v c (2 ^ t)))
+        → Mid N t b x w z A (walk plan t p (part mask (b + 2 ^ t) (2 ^ t)) (begun first plan t p (part mask (b + 2 ^ t) (2 ^ t)) B) (soft v c (2 ^ t)))
     mid-right s = record {
       kept = kept-trans (m .kept) (kept-child N t b x (b + 2 ^ t) v z (omega arith) (omega arith) (fit .rows) (s .kept));
       lefts = tree-cong N t b v z (λ u i le low high. s .kept .rows u i le (omega (arith, fit .within, twice)) (inl high)) ∙ m .lefts;
-      rights = s .tree ∙ ap (λ (T : Tree). walk plan t p (part mask (b + 2 ^ t) t) (begun first plan t p (part mask (b + 2 ^ t) t) T) (soft v c (2 ^ t))) (m .rights);
+      rights = s .tree ∙ ap (λ (T : Tree). walk plan t p (part mask (b + 2 ^ t) (2 ^ t)) (begun first plan t p (part mask (b + 2 ^ t) (2 ^ t)) T) (soft v c (2 ^ t))) (m .rights);
     }
 
   -- the right child's incoming list outlasts the child's visit, and so does what it was made of

@@ -12,8 +12,8 @@ use lib.Dec.{T, eqb}
 use borrow.Author.Tests.{ne-eqb}
 use lib.ListN.{length, getD, List·getD-map}
 use lib.Seq.{take-all}
-use Rattle.model.specs.Lists.{tabulate}
-use Rattle.model.specs.Soft.{Soft, finite, _at_, mark, wordOf, maxLlr}
+use Rattle.model.specs.Lists.{tabulate, part}
+use Rattle.model.specs.Soft.{Soft, finite, _at_, mark, wordOf, maxLlr, softOf}
 use Rattle.model.specs.Scan.{Tree, message, start, sweeps, scan}
 use Rattle.model.specs.Plans.{Stays, wellCut, walk}
 use Rattle.model.specs.Bounds.{Small, SmallAll, Held}
@@ -22,22 +22,22 @@ use Rattle.model.proofs.Paths.{allowed-length, allowed-cuts}
 use Rattle.model.proofs.Theorems.{soft-from}
 use Rattle.model.proofs.PlannedWalk.{walk-stays, stays-then}
 use Rattle.model.proofs.Bounds.{held-sweeps, within-held, within-start}
-use Rattle.words.specs.Words.{word, softOf, soft, write, stored}
+use Rattle.words.specs.Words.{word, soft, write, stored}
 use Rattle.words.proofs.Laws.{soft-at, word-soft, soft-fin}
 use Rattle.words.proofs.Store.{length-write, write-is, write-ext, source-above}
-use Rattle.scan.specs.Space.{treeAt, begun, part, Room, Kept, Visited, Ready, Swept, Decodable}
+use Rattle.scan.specs.Space.{treeAt, begun, Room, Kept, Visited, Ready, Swept, Decodable}
 use Rattle.scan.proofs.Begun.{overlaid-agrees, overlaid-held, begun-stays}
 use Rattle.scan.proofs.Keep.{row-start, tree-message, soft-cong, stored-at}
 
 -- the whole mask
-whole : (mask : List ℕ) (t : ℕ) → length mask ≤ 2 ^ t → part mask 0 t ≡ mask
+whole : (mask : List ℕ) (t : ℕ) → length mask ≤ 2 ^ t → part mask 0 (2 ^ t) ≡ mask
 whole mask t h = take-all (2 ^ t) mask h
 
 module _ {plan mask : List ℕ} {N t : ℕ} {first : Bool} {w : List ℤ} (r : Ready plan mask N t first w) where
   positive : 0 < N
   positive = subst (λ (z : ℕ). 0 < z) (sym (r .size)) (pow-pos t)
 
-  the-mask : part mask 0 t ≡ mask
+  the-mask : part mask 0 (2 ^ t) ≡ mask
   the-mask = whole mask t (omega (arith, r .positions, r .size))
 
   -- the number of stages fits

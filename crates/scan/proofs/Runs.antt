@@ -10,7 +10,7 @@ use lib.Dec.{T}
 use mathlib.Core.Option.{Option, none, some}
 use lib.Pow.{pow-pos}
 use lib.ListN.{length, take, drop}
-use Rattle.model.specs.Soft.{Soft, certain, softZero, _at_, mark}
+use Rattle.model.specs.Soft.{Soft, certain, softZero, _at_, mark, softOf}
 use Rattle.model.specs.Scan.{Tree, node, message, left, right, toLeft, toRight, toNode}
 use Rattle.model.specs.Kinds.{isSome, Kind, rate-0, rate-1, REP, SPC, type-I, type-III, kindOf, shortcut}
 use Rattle.model.specs.Plans.{isRate01, putKind, isCut, wellCut, walk}
@@ -19,11 +19,12 @@ use Rattle.model.proofs.Lists.{absurd-bool, double, tabulate-halves, and-l, and
 use Rattle.model.proofs.PlannedWalk.{walk-cut, walk-through, descend}
 use Rattle.model.proofs.Paths.{wellCut-cut, wellCut-through}
 use Rattle.model.proofs.Bounds.{cap-suc, small-toLeft, small-toRight, held-walk, held-message}
-use Rattle.words.specs.Words.{Holds, word, softOf, soft, write, Words}
+use Rattle.words.specs.Words.{Holds, word, soft, write, Words}
 use Rattle.halves.specs.Halves.{boxAt, boxPlus, plusBox, Sums, FiniteBoxSums, InRange, RightListAt, lowHalf, nodeWords}
 use Rattle.words.proofs.Store.{source-below, length-write}
 use Rattle.kinds.specs.Known.{FixedAs}
-use Rattle.scan.specs.Space.{constant, treeAt, begun, part, Room, Visited}
+use Rattle.model.specs.Lists.{part}
+use Rattle.scan.specs.Space.{constant, treeAt, begun, Room, Visited}
 use Rattle.scan.proofs.Keep.{Fit, node-path, part-left, part-right}
 use Rattle.scan.proofs.Begun.{begun-left, begun-right, begun-zero, leaf-constant}
 use Rattle.scan.proofs.Mids.{Mid, Visiting, mid-start, mid-scratch, mid-row, mid-left, mid-right, words-list, words-high, words-left, right-sums, right-stays, right-list, left-sums, left-list, left-list-zero, in-range, low-half, high-half, left-holds, right-holds}
@@ -120,10 +121,10 @@ module _ (plan mask : List ℕ) (N t s p b x : ℕ) (first : Bool) (w : List ℤ
 
   -- the children's parts of the mask, and what is stored of their states
   abbrev left-mask : List ℕ
-  left-mask = part mask b t
+  left-mask = part mask b (2 ^ t)
 
   abbrev right-mask : List ℕ
-  right-mask = part mask (b + 2 ^ t) t
+  right-mask = part mask (b + 2 ^ t) (2 ^ t)
 
   abbrev stored-left : Tree
   stored-left = treeAt N w t b
@@ -145,15 +146,15 @@ module _ (plan mask : List ℕ) (N t s p b x : ℕ) (first : Bool) (w : List ℤ
   right-after = walk plan t (2 * p + 1) right-mask right-before (toRight h incoming (message left-after))
 
   abbrev node-before : Tree
-  node-before = begun first plan (suc t) p (part mask b (suc t)) (treeAt N w (suc t) b)
+  node-before = begun first plan (suc t) p (part mask b (2 ^ suc t)) (treeAt N w (suc t) b)
 
   before-left : left node-before ≡ left-before
   unfolding treeAt
-  before-left = begun-left first plan t p (part mask b (suc t)) (treeAt N w (suc t) b) uncut ∙ ap (λ (q : List ℕ). begun first plan t (2 * p) q stored-left) (part-left mask b t)
+  before-left = begun-left first plan t p (part mask b (2 ^ suc t)) (treeAt N w (suc t) b) uncut ∙ ap (λ (q : List ℕ). begun first plan t (2 * p) q stored-left) (part-left mask b t)
 
   before-right : right node-before ≡ right-before
   unfolding treeAt
-  before-right = begun-right first plan t p (part mask b (suc t)) (treeAt N w (suc t) b) uncut ∙ ap (λ (q : List ℕ). begun first plan t (2 * p + 1) q stored-right) (part-right mask b t)
+  before-right = begun-right first plan t p (part mask b (2 ^ suc t)) (treeAt N w (suc t) b) uncut ∙ ap (λ (q : List ℕ). begun first plan t (2 * p + 1) q stored-right) (part-right mask b t)
 
   fits : Fit N (suc t) b x (length w)
   fits = fit-room room
@@ -162,7 +163,7 @@ module _ (plan mask : List ℕ) (N t s p b x : ℕ) (first : Bool) (w : List ℤ
   twice = double t
 
   incoming-small : SmallAll (suc t) bound incoming
-  incoming-small = room .small (ap (λ (b : Bool). b && isRate01 (kindOf (2 ^ suc t) (part mask b₀ (suc t)))) uncut)
+  incoming-small = room .small (ap (λ (b : Bool). b && isRate01 (kindOf (2 ^ suc t) (part mask b₀ (2 ^ suc t)))) uncut)
     where
       b₀ : ℕ
       b₀ = b
@@ -186,14 +187,14 @@ module _ (plan mask : List ℕ) (N t s p b x : ℕ) (first : Bool) (w : List ℤ
   begin = record { fit = fits; bound = bound; small = incoming-small; limited = sum-limit; doubled = double-limit }
 
   -- cuts below
-  children-cuts : T (wellCut plan t (2 * p) (take (2 ^ t) (part mask b (suc t))) && wellCut plan t (2 * p + 1) (drop (2 ^ t) (part mask b (suc t))))
-  children-cuts = wellCut-through plan t p (part mask b (suc t)) uncut (room .cuts)
+  children-cuts : T (wellCut plan t (2 * p) (take (2 ^ t) (part mask b (2 ^ suc t))) && wellCut plan t (2 * p + 1) (drop (2 ^ t) (part mask b (2 ^ suc t))))
+  children-cuts = wellCut-through plan t p (part mask b (2 ^ suc t)) uncut (room .cuts)
 
   left-cuts : T (wellCut plan t (2 * p) left-mask)
-  left-cuts = subst (λ (q : List ℕ). T (wellCut plan t (2 * p) q)) (part-left mask b t) (and-l (wellCut plan t (2 * p) (take (2 ^ t) (part mask b (suc t)))) (wellCut plan t (2 * p + 1) (drop (2 ^ t) (part mask b (suc t)))) children-cuts)
+  left-cuts = subst (λ (q : List ℕ). T (wellCut plan t (2 * p) q)) (part-left mask b t) (and-l (wellCut plan t (2 * p) (take (2 ^ t) (part mask b (2 ^ suc t)))) (wellCut plan t (2 * p + 1) (drop (2 ^ t) (part mask b (2 ^ suc t)))) children-cuts)
 
   right-cuts : T (wellCut plan t (2 * p + 1) right-mask)
-  right-cuts = subst (λ (q : List ℕ). T (wellCut plan t (2 * p + 1) q)) (part-right mask b t) (and-r (wellCut plan t (2 * p) (take (2 ^ t) (part mask b (suc t)))) (wellCut plan t (2 * p + 1) (drop (2 ^ t) (part mask b (suc t)))) children-cuts)
+  right-cuts = subst (λ (q : List ℕ). T (wellCut plan t (2 * p + 1) q)) (part-right mask b t) (and-r (wellCut plan t (2 * p) (take (2 ^ t) (part mask b (2 ^ suc t)))) (wellCut plan t (2 * p + 1) (drop (2 ^ t) (part mask b (2 ^ suc t)))) children-cuts)
 
   -- the bounds of the children's messages, before and after
   left-held-before : Held plan t (2 * p) (2 * bound) left-before
@@ -223,9 +224,9 @@ module _ (plan mask : List ℕ) (N t s p b x : ℕ) (first : Bool) (w : List ℤ
   mid₀ = mid-start N t b x w
 
   -- what the visit of a child q with the positions from b′ on requires
-  child-room : {q b′ : ℕ} {v : List ℤ} → length v ≡ length w → b ≤ b′ → b′ + h ≤ b + (h + h) → (q + 1) * h ≤ length plan → T (wellCut plan t q (part mask b′ t))
-      → (constant plan h q (part mask b′ t) ≡ false → SmallAll t (2 * bound) (soft v c h))
-      → Held plan t q (2 * bound) (begun first plan t q (part mask b′ t) (treeAt N v t b′)) → Room plan mask N t h q b′ c first v
+  child-room : {q b′ : ℕ} {v : List ℤ} → length v ≡ length w → b ≤ b′ → b′ + h ≤ b + (h + h) → (q + 1) * h ≤ length plan → T (wellCut plan t q (part mask b′ (2 ^ t)))
+      → (constant plan h q (part mask b′ (2 ^ t)) ≡ false → SmallAll t (2 * bound) (soft v c h))
+      → Held plan t q (2 * bound) (begun first plan t q (part mask b′ (2 ^ t)) (treeAt N v t b′)) → Room plan mask N t h q b′ c first v
   child-room long low high planned cuts small held = record {
     size = refl;
     fit = omega (arith, fits .fit, twice);
@@ -252,7 +253,7 @@ module _ (plan mask : List ℕ) (N t s p b x : ℕ) (first : Bool) (w : List ℤ
 
     -- a leaf's list is not looked at
     no-leaf : (a₁ || z₁) ≡ false → t ≡ 0 → ⊥
-    no-leaf q z = absurd-bool (constant plan h (2 * p) left-mask) (subst (λ (u : ℕ). T (wellCut plan u (2 * p) (part mask b u)) → constant plan (2 ^ u) (2 * p) (part mask b u) ≡ true) (sym z) (leaf-constant plan (2 * p) (part mask b 0)) left-cuts) (sym skip₁ ∙ q)
+    no-leaf q z = absurd-bool (constant plan h (2 * p) left-mask) (subst (λ (u : ℕ). T (wellCut plan u (2 * p) (part mask b (2 ^ u))) → constant plan (2 ^ u) (2 * p) (part mask b (2 ^ u)) ≡ true) (sym z) (leaf-constant plan (2 * p) (part mask b (2 ^ 0))) left-cuts) (sym skip₁ ∙ q)
 
     module _ {w₁ : List ℤ} (e₁ : LeftList N b x h t c first (a₁ || z₁) w w₁) where
       mid₁ : Mid N t b x w w₁ stored-left stored-right
@@ -344,7 +345,7 @@ module _ (plan mask : List ℕ) (N t s p b x : ℕ) (first : Bool) (w : List ℤ
             unfolding treeAt
             node-visited = record {
               tree = node-path message-is (mid₅ .lefts) (mid₅ .rights)
-                  ∙ sym (walk-through plan t p (part mask b (suc t)) node-before incoming uncut
+                  ∙ sym (walk-through plan t p (part mask b (2 ^ suc t)) node-before incoming uncut
                   ∙ ap₂ (λ (q r : List ℕ). descend (walk plan t (2 * p) q) (walk plan t (2 * p + 1) r) (2 ^ t) node-before incoming) (part-left mask b t) (part-right mask b t)
                   ∙ ap₂ (λ (X Y : Tree). descend (walk plan t (2 * p) left-mask) (walk plan t (2 * p + 1) right-mask) (2 ^ t) (node [] X Y) incoming) before-left before-right);
               kept = mid₅ .kept;

@@ -7,6 +7,7 @@ use Prim.Native.Nat.{ℕ, zero, suc, _+_, _*_, _^_, _≤_, _<_}
 use lib.IntN.{ℤ, natAbs}
 use lib.Dec.{T}
 use lib.ListN.{length, take, drop}
+use Rattle.model.specs.Lists.{part}
 use Rattle.model.specs.Soft.{maxLlr}
 use Rattle.model.specs.Scan.{Tree, leaf, node, message, left, right, start, sweeps}
 use Rattle.model.specs.Kinds.{kindOf}
@@ -30,10 +31,6 @@ overlaid plan (suc t) p S T =
 abbrev pub begun : Bool → List ℕ → ℕ → ℕ → List ℕ → Tree → Tree
 begun first plan t p mask T = cond first (overlaid plan t p (start t mask) T) T
 
--- the part of the mask of the node of stage t whose first position is b
-abbrev pub part : List ℕ → ℕ → ℕ → List ℕ
-part mask b t = take (2 ^ t) (drop b mask)
-
 -- a cut rate-0 or rate-1 node: its message does not depend on what it is handed
 abbrev pub constant : List ℕ → ℕ → ℕ → List ℕ → Bool
 constant plan m p mask = isCut plan p && isRate01 (kindOf m mask)
@@ -47,12 +44,12 @@ pub record Room (plan mask : List ℕ) (N t s p b x : ℕ) (first : Bool) (w : L
   pub within : b + s ≤ N
   pub planned : (p + 1) * s ≤ length plan
   pub masked : b + s ≤ length mask
-  pub cuts : T (wellCut plan t p (part mask b t))
+  pub cuts : T (wellCut plan t p (part mask b (2 ^ t)))
   -- incoming values that are looked at are at most `bound`, messages at and above the cuts are within the stage's bounds
   pub bound : ℕ
   pub limited : bound * 2 ^ t ≤ limit
-  pub small : constant plan (2 ^ t) p (part mask b t) ≡ false → SmallAll t bound (soft w x (2 ^ t))
-  pub held : Held plan t p bound (begun first plan t p (part mask b t) (treeAt N w t b))
+  pub small : constant plan (2 ^ t) p (part mask b (2 ^ t)) ≡ false → SmallAll t bound (soft w x (2 ^ t))
+  pub held : Held plan t p bound (begun first plan t p (part mask b (2 ^ t)) (treeAt N w t b))
 
 -- v is w but for the words of the node of stage t with the positions from b on, and the words that follow its incoming list at x
 pub record Kept (N t b x : ℕ) (w v : List ℤ) : Type 0 where
@@ -63,7 +60,7 @@ pub record Kept (N t b x : ℕ) (w v : List ℤ) : Type 0 where
 
 -- v is w after a visit of node p at stage t
 pub record Visited (plan mask : List ℕ) (N t p b x : ℕ) (first : Bool) (w v : List ℤ) : Type 0 where
-  pub tree : treeAt N v t b ≡ walk plan t p (part mask b t) (begun first plan t p (part mask b t) (treeAt N w t b)) (soft w x (2 ^ t))
+  pub tree : treeAt N v t b ≡ walk plan t p (part mask b (2 ^ t)) (begun first plan t p (part mask b (2 ^ t)) (treeAt N w t b)) (soft w x (2 ^ t))
   pub kept : Kept N t b x w v
 
 -- ---- sweeps

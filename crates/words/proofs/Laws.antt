@@ -1,7 +1,7 @@
 -- Laws of box and sum on words. Assumes nothing.
 use mathlib.Core.Path.{_≡_, refl, sym, ap, _∙_, subst}
 use mathlib.Core.Logic.{_⊎_, inl, inr, ⊎-elim}
-use mathlib.Core.Bool.{Bool, true, false, cond}
+use mathlib.Core.Bool.{Bool, true, false, cond, not, Bool·beq}
 use Prim.Native.Nat.{ℕ, suc, _+_, _≤_, _<_, min}
 use native.Mathlib.Omega.{arith}
 use lib.IntN.{ℤ, pos, negsuc, negℤ, natAbs, _+ℤ_, _-ℤ_, +ℤ-comm, +ℤ-idr, +ℤ-negℤ-cancel}
@@ -10,22 +10,23 @@ use borrow.Author.Tests.{eqb-true, ne-eqb}
 use mathlib.Core.List.{List}
 use Rattle.model.specs.Bounds.{Small, Under}
 use Rattle.model.proofs.Lists.{getD-tabulate}
-use Rattle.words.specs.Words.{Word, xor, softOf, boxWord, addWord, word, soft}
-use Rattle.model.specs.Soft.{mark, wordOf, Soft, finite, certain, softZero, _at_, box, boxℤ, plus, signed, negative, differ}
+use Rattle.words.specs.Words.{Word, boxWord, addWord, word, soft}
+use Rattle.model.specs.Soft.{mark, wordOf, Soft, finite, certain, softZero, _at_, box, boxℤ, plus, signed, negative, differ, softOf}
 
 -- box of two words as numbers, with the sign as the machine finds it
 abbrev pub boxZ : ℤ → ℤ → ℤ
-boxZ a b = signed (xor (negative a) (negative b)) (min (natAbs a) (natAbs b))
+boxZ a b = signed (differ (negative a) (negative b)) (min (natAbs a) (natAbs b))
 
-pub differ-xor : (a b : Bool) → differ a b ≡ xor a b
-differ-xor true true = refl
-differ-xor true false = refl
-differ-xor false true = refl
-differ-xor false false = refl
+-- the machine's test of two signs
+pub differ-test : (a b : Bool) → not (Bool·beq a b) ≡ differ a b
+differ-test true true = refl
+differ-test true false = refl
+differ-test false true = refl
+differ-test false false = refl
 
 pub boxℤ-is : (a b : ℤ) → boxℤ a b ≡ boxZ a b
 unfolding boxℤ
-boxℤ-is a b = ap (λ (s : Bool). signed s (min (natAbs a) (natAbs b))) (differ-xor (negative a) (negative b))
+boxℤ-is a b = refl
 
 -- a word is the mark, or stands for itself
 pub soft-cases : (z : ℤ) → ((z ≡ pos mark) × (softOf z ≡ certain)) ⊎ (softOf z ≡ finite z)

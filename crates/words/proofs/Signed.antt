@@ -1,6 +1,6 @@
 -- Signed words: what the machine reads back from bits, and bounds of negations and sums, over ℕ. Assumes nothing.
 use mathlib.Core.Path.{_≡_, refl, sym, ap, ap₂, _∙_, subst}
-use mathlib.Core.Bool.{Bool, true, false, cond, not, Bool·beq}
+use mathlib.Core.Bool.{Bool, true, false, cond}
 use Prim.Native.Nat.{ℕ, zero, suc, _^_, _<_, min, zero-le}
 use native.Mathlib.Omega.{arith}
 use lib.IntN.{ℤ, pos, negsuc, negℤ, natAbs, _-ℤ_, +ℤ-idl}
@@ -11,7 +11,7 @@ use mir.Syntax.{w16, w32}
 use mir.Val.{SFits, ofZ, toZ}
 use mir.Facts.{toZ-ofZ}
 use Rattle.words.specs.Words.{Word}
-use Rattle.model.specs.Soft.{mark, negative, signed}
+use Rattle.model.specs.Soft.{mark, negative, signed, differ}
 
 pub fits-word : (z : ℤ) → Word z → SFits w32 z
 fits-word (pos n) h = record { sfits = omega arith }
@@ -81,7 +81,7 @@ opposite (suc x) y = go (ltb x y) refl
     go true e = ap (λ (n : ℕ). negℤ (pos n)) (let f : suc x ≡ min (suc x) (suc y) = omega (arith, ltb-true x y e) in f)
     go false e = ap (λ (n : ℕ). negℤ (pos n)) (let f : suc y ≡ min (suc x) (suc y) = omega (arith, ltb-false x y e) in f)
 
-pub box-by : (a b : ℤ) → minMax (cond (ltZ a b) a b) (cond (ltZ a b) b a) ≡ signed (not (Bool·beq (negative a) (negative b))) (min (natAbs a) (natAbs b))
+pub box-by : (a b : ℤ) → minMax (cond (ltZ a b) a b) (cond (ltZ a b) b a) ≡ signed (differ (negative a) (negative b)) (min (natAbs a) (natAbs b))
 box-by (pos a) (pos b) = go (ltb a b) refl
   where
     go : (t : Bool) → ltb a b ≡ t → minMax (cond t (pos a) (pos b)) (cond t (pos b) (pos a)) ≡ pos (min a b)

@@ -1,18 +1,11 @@
 -- 32-bit words that hold soft values: 2147483647 is the mark of certain. Assumes nothing: these are definitions.
 use mathlib.Core.Path.{_≡_}
-use mathlib.Core.Bool.{Bool, cond, not, Bool·beq}
 use mathlib.Core.List.{List}
 use Prim.Native.Nat.{ℕ, zero, suc, _+_, _*_, _≤_, _<_}
-use lib.IntN.{ℤ, pos, negsuc, natAbs}
-use lib.Dec.{eqb}
+use lib.IntN.{ℤ, pos, natAbs}
 use lib.ListN.{getD, set}
 use Rattle.model.specs.Lists.{tabulate}
-use Rattle.model.specs.Soft.{Soft, finite, certain, _at_, box, plus, mark, wordOf}
-
--- the soft value of a word
-abbrev pub softOf : ℤ → Soft
-softOf (pos n) = cond (eqb n mark) certain (finite (pos n))
-softOf (negsuc n) = finite (negsuc n)
+use Rattle.model.specs.Soft.{Soft, _at_, box, plus, mark, wordOf, softOf}
 
 -- box and sum on words
 unfoldable pub boxWord : ℤ → ℤ → ℤ
@@ -24,10 +17,6 @@ addWord a b = wordOf (plus (softOf a) (softOf b))
 -- any 32-bit number but the least
 abbrev pub Word : ℤ → Type 0
 Word z = natAbs z ≤ mark
-
--- a product of signs is negative exactly if one of the two is
-abbrev pub xor : Bool → Bool → Bool
-xor a b = not (Bool·beq a b)
 
 abbrev pub word : List ℤ → ℕ → ℤ
 word w j = getD w j (pos 0)

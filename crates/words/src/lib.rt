@@ -7,6 +7,9 @@ ghost use lib.Signed.{ltZ};
 ghost use lib.ListN.{length};
 ghost use Rattle.words.specs.Words.{boxWord, addWord, Word, Added, word, write, four, Finite};
 
+// The word that stands for certain.
+pub const MARK: i32 = 2147483647;
+
 // The smaller of two words.
 pub fn min_word(a: i32, b: i32) -> i32
     ensures { λ r. ⌜ r ≡ cond (ltZ a b) a b ⌝ }
@@ -61,7 +64,7 @@ pub fn add_words(a: i32, b: i32) -> i32
     requires { ⌜ Added a b ⌝ }
     ensures { λ r. ⌜ r ≡ addWord a b ⌝ }
 {
-    b + pick_word(b == 2147483647, 0, a)
+    b + pick_word(b == MARK, 0, a)
 }
 
 // The sum of two finite words.

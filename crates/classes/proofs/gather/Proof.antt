@@ -9,8 +9,9 @@ use native.Mathlib.Omega.{arith}
 use lib.Signed.{ltZ}
 use mir.Val.{toZ, ofZ}
 use mir.Syntax.{w32}
-use Rattle.words.specs.Words.{xor, word}
-use Rattle.model.specs.Soft.{negative}
+use Rattle.words.specs.Words.{word}
+use Rattle.words.proofs.Laws.{differ-test}
+use Rattle.model.specs.Soft.{negative, differ}
 use Rattle.words.proofs.Signed.{back, ltZ-zero}
 use Rattle.classes.specs.Sums.{strided}
 use Rattle.classes.proofs.Strided.{strided-skip, strided-step, strided-end}
@@ -47,7 +48,7 @@ loop-again c =
     let size : after-size .size-word .result ≡ natAbs x = after-size .size-word .ensures ∙ ap natAbs own in
     let m1 = c .min-size2 .ensures ∙ ap (λ (n : ℕ). min n (b .loop .m1)) size in
     let m2 = c .before .min-size .ensures ∙ ap (min (b .loop .m2)) (after-max .max-size .ensures ∙ ap (λ (n : ℕ). max n (b .loop .m1)) size) in
-    let n : not (Bool·beq (ltZ (toZ w32 (ofZ w32 x)) (pos 0)) (b .loop .neg)) ≡ xor (negative x) (b .loop .neg) = ap (λ (t : Bool). xor t (b .loop .neg)) (ltZ-zero (toZ w32 (ofZ w32 x)) ∙ ap negative own) in
+    let n : not (Bool·beq (ltZ (toZ w32 (ofZ w32 x)) (pos 0)) (b .loop .neg)) ≡ differ (negative x) (b .loop .neg) = differ-test (ltZ (toZ w32 (ofZ w32 x)) (pos 0)) (b .loop .neg) ∙ ap (λ (t : Bool). differ t (b .loop .neg)) (ltZ-zero (toZ w32 (ofZ w32 x)) ∙ ap negative own) in
     rw (m1, m2, n) (gath-turn (b .loop .m1) (b .loop .m2) (b .loop .neg) x rest whole (b .before .pre .1 (b .loop .i)) g)
 
 returns : tie.Need-returns Inv-loop μ-loop

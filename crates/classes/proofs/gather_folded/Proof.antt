@@ -9,8 +9,9 @@ use lib.ListN.{length}
 use lib.Signed.{ltZ, mag}
 use mir.Val.{toZ, ofZ}
 use mir.Syntax.{w32}
-use Rattle.model.specs.Soft.{negative}
-use Rattle.words.specs.Words.{xor, word, Holds}
+use Rattle.model.specs.Soft.{negative, differ}
+use Rattle.words.proofs.Laws.{differ-test}
+use Rattle.words.specs.Words.{word, Holds}
 use Rattle.classes.specs.Sums.{strided}
 use Rattle.classes.specs.LeastSizes.{least, next, parity}
 use Rattle.classes.specs.Folds.{column, keepSign, lowAt, highAt}
@@ -52,7 +53,7 @@ loop-again c l len low high =
     let hi : c .before .before .before .before .kept-size .result ≡ next k = c .before .before .before .before .kept-size .ensures ∙ ap mag xs ∙ mag-kept (parity k) (next k) in
     let m1 = c .min-size3 .ensures ∙ ap (λ (n : ℕ). min n (b .loop .m1)) lo in
     let m2 = c .before .min-size2 .ensures ∙ ap₂ min (c .before .before .before .min-size .ensures ∙ ap (min (b .loop .m2)) hi) (c .before .before .max-size .ensures ∙ ap (λ (n : ℕ). max n (b .loop .m1)) lo) in
-    let n : not (Bool·beq (ltZ (toZ w32 (ofZ w32 x)) (pos 0)) (b .loop .neg)) ≡ xor (parity k) (b .loop .neg) = ap (λ (t : Bool). xor t (b .loop .neg)) (ltZ-zero (toZ w32 (ofZ w32 x)) ∙ ap negative xs ∙ negative-kept (parity k) (next k)) in
+    let n : not (Bool·beq (ltZ (toZ w32 (ofZ w32 x)) (pos 0)) (b .loop .neg)) ≡ differ (parity k) (b .loop .neg) = differ-test (ltZ (toZ w32 (ofZ w32 x)) (pos 0)) (b .loop .neg) ∙ ap (λ (t : Bool). differ t (b .loop .neg)) (ltZ-zero (toZ w32 (ofZ w32 x)) ∙ ap negative xs ∙ negative-kept (parity k) (next k)) in
     rw (m1, m2, n) (column-turn (a .p) (b .before .pre .0 .0) (a .q) l len (b .loop .i) lt (b .loop .m1) (b .loop .m2) (b .loop .neg) whole (b .loop .inv l len low high))
 
 returns : tie.Need-returns Inv-loop μ-loop

@@ -3,16 +3,16 @@ use mathlib.Core.Path.{_≡_, ap, ap₂, _∙_}
 use mathlib.Core.Bool.{Bool, cond}
 use Prim.Native.Nat.{ℕ, _≤_}
 use native.Mathlib.Omega.{arith}
+use lib.Signed.{ltZ}
 use lib.IntN.{ℤ, pos, natAbs, negℤ}
 use lib.Dec.{eqb}
 use mir.Val.{toZ, ofZ}
 use mir.Syntax.{w32}
 use mir.Facts.{toZ-ofZ}
-use Rattle.model.specs.Soft.{mark, negative}
+use Rattle.model.specs.Soft.{mark, negative, differ}
 use Rattle.model.proofs.Lists.{cond-both}
-use Rattle.words.specs.Words.{xor}
 use Rattle.words.proofs.Signed.{back, fits-word, ltZ-zero}
-use Rattle.words.proofs.Laws.{signed-is}
+use Rattle.words.proofs.Laws.{signed-is, differ-test}
 use borrow.Author.Needs.{needs}
 use Rattle.extrinsic.proofs.leave_out.Statement.{statement}
 use Rattle.extrinsic.proofs.leave_out.Tie as tie
@@ -39,8 +39,8 @@ returns c =
     let m = toZ-ofZ (cast-with-sign (c .before)) ∙ ap pos (pick-is (c .before)) in
     let g = s .args .g in
     back (c .with-sign .ok) ∙ c .with-sign .ensures
-    ∙ ap₂ (λ (t : Bool) (z : ℤ). cond t (negℤ z) z) (ap (xor (g .neg)) (ltZ-zero (toZ w32 (ofZ w32 (s .args .x))) ∙ ap negative (toZ-ofZ (s .fits .x)))) m
-    ∙ signed-is (xor (g .neg) (negative (s .args .x))) (cond (eqb (natAbs (s .args .x)) (g .least)) (g .next) (g .least))
+    ∙ ap₂ (λ (t : Bool) (z : ℤ). cond t (negℤ z) z) (differ-test (g .neg) (ltZ (toZ w32 (ofZ w32 (s .args .x))) (pos 0)) ∙ ap (differ (g .neg)) (ltZ-zero (toZ w32 (ofZ w32 (s .args .x))) ∙ ap negative (toZ-ofZ (s .fits .x)))) m
+    ∙ signed-is (differ (g .neg) (negative (s .args .x))) (cond (eqb (natAbs (s .args .x)) (g .least)) (g .next) (g .least))
 
 pub leave-out-spec : {M : Type 1} → statement M
 leave-out-spec = tie.close (tie.spec (λ c κs. search needs) (λ c κs. omega arith) cast-with-sign with-sign-requires returns)

@@ -4,7 +4,6 @@ use mathlib.Core.List.{map}
 use lib.ListN.{length}
 use Prim.Native.Nat.{_+_, _*_}
 use Rattle.model.specs.Scan.{Decoded}
-use Rattle.words.specs.Words.{softOf}
 use Rattle.printer.specs.Text.{natText, softText, bitsText, payloadText, spaced, decoded}
 use Rattle.printer.proofs.Puts.{put-then, put-as}
 use Rattle.printer.proofs.Texts.{okPieces, ok-pieces}
@@ -13,6 +12,7 @@ use Rattle.printer.proofs.Whole.{printed}
 use borrow.Author.Needs.{needs}
 use Rattle.printer.proofs.print_decoded.Statement.{statement}
 use Rattle.printer.proofs.print_decoded.Tie as tie
+use Rattle.model.specs.Soft.{softOf}
 
 put-head-requires : tie.Need-put-head-requires
 put-head-requires c κs = search needs

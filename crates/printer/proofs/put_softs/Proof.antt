@@ -9,7 +9,6 @@ use lib.ListN.{length, getD, length-append}
 use mir.Facts.{toZ-ofZ}
 use mir.Syntax.{w32}
 use mir.Val.{toZ, ofZ}
-use Rattle.words.specs.Words.{softOf}
 use Rattle.printer.specs.Text.{softText, spaced}
 use Rattle.printer.proofs.Puts.{Going, going-start, going-on, going-end}
 use Rattle.printer.proofs.Texts.{softsFrom, softs-on, softs-end}
@@ -17,6 +16,7 @@ use Rattle.printer.proofs.Sizes.{soft-eleven}
 use borrow.Author.Needs.{needs}
 use Rattle.printer.proofs.put_softs.Statement.{statement}
 use Rattle.printer.proofs.put_softs.Tie as tie
+use Rattle.model.specs.Soft.{softOf}
 
 abbrev Inv-loop : tie.InvT-loop
 Inv-loop soft out₀ at e₀ i₀ out e i =

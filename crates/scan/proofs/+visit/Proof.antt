@@ -17,7 +17,8 @@ use lib.IntN.{ℤ, pos}
 use mathlib.Core.List.{List}
 use Rattle.model.specs.Soft.{mark}
 use Rattle.words.specs.Words.{write}
-use Rattle.scan.specs.Space.{part, Visited}
+use Rattle.model.specs.Lists.{part}
+use Rattle.scan.specs.Space.{Visited}
 use Rattle.kinds.proofs.Runs.{kind-part}
 use Rattle.messages.specs.Cut.{cutWords, Sized, leastOf}
 use Rattle.messages.proofs.Sizes.{kind-sized}
@@ -78,7 +79,7 @@ module _ (t : ℕ) where
   above c =
       let start = c .before .before .before .before in
       let a = start .args in
-      not-leaf (a .plan .now) (a .stage) (a .node) (part (a .mask .now) (a .from) (a .stage)) (start .pre .1 .cuts) (not-cut c)
+      not-leaf (a .plan .now) (a .stage) (a .node) (part (a .mask .now) (a .from) (2 ^ a .stage)) (start .pre .1 .cuts) (not-cut c)
 
   -- its numbers
   numbers : (c : Uncut) → let a = c .before .before .before .before .args in Numbers (a .len) (length (a .plan .now)) (a .stage) (a .size) (a .node) (a .size / 2) (a .stage - 1)
@@ -96,7 +97,7 @@ module _ (t : ℕ) where
       let a = start .args in
       let room = start .pre .1 in
       subst (λ (o : Option Kind). T (isSome o)) (sym (kind-part (a .mask .now) (a .from) (a .size) (room .masked) ∙ kind-stage (a .mask .now) (a .from) (a .size) (a .stage) (room .size)))
-      (wellCut-cut (a .plan .now) (a .stage) (a .node) (part (a .mask .now) (a .from) (a .stage)) (is-cut (c .before)) (room .cuts))
+      (wellCut-cut (a .plan .now) (a .stage) (a .node) (part (a .mask .now) (a .from) (2 ^ a .stage)) (is-cut (c .before)) (room .cuts))
 
   visit-cut-message-requires : visit-lts.Need-cut-message-requires (around t) (visit-at t) visit.Post
   visit-cut-message-requires c κs =
@@ -106,7 +107,7 @@ module _ (t : ℕ) where
         (omega arith, omega arith),
         (
           subst (λ (o : Option Kind). Sized (leastOf o) (a .size)) (sym (c .before .cut-kind .ensures ∙ kind-part (a .mask .now) (a .from) (a .size) (room .masked))) (kind-sized (a .size) (a .stage) _ (room .size)),
-          λ q. incoming room (ap (λ (x : Bool). x && isRate01 (kindOf (2 ^ a .stage) (part (a .mask .now) (a .from) (a .stage)))) (is-cut (c .before .before .before)) ∙ sym (ap isRate01 (c .before .cut-kind .ensures ∙ kind-part (a .mask .now) (a .from) (a .size) (room .masked) ∙ kind-stage (a .mask .now) (a .from) (a .size) (a .stage) (room .size))) ∙ q),
+          λ q. incoming room (ap (λ (x : Bool). x && isRate01 (kindOf (2 ^ a .stage) (part (a .mask .now) (a .from) (2 ^ a .stage)))) (is-cut (c .before .before .before)) ∙ sym (ap isRate01 (c .before .cut-kind .ensures ∙ kind-part (a .mask .now) (a .from) (a .size) (room .masked) ∙ kind-stage (a .mask .now) (a .from) (a .size) (a .stage) (room .size))) ∙ q),
         ),
       )
 
