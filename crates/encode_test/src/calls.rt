@@ -4,7 +4,7 @@ use test_tools::buffers::Bytes;
 use test_tools::buffers::bytes;
 use test_tools::buffers::lent_bytes;
 
-pub fn number_of(answer: Encoded) -> u32 {
+fn number_of(answer: Encoded) -> u32 {
     match answer {
         Encoded::Done => 0,
         Encoded::BadLength => 1,
