@@ -130,7 +130,7 @@ fn try_decode(c: Case, mask: Bytes, plan: Bytes, cycles: u32, llrs: [u64; 1024])
 }
 
 // Planner, check and decoder on one case.
-pub fn try_case(c: Case, given: &[u8]) -> Tried {
+pub fn try_case(c: Case, given: Bytes) -> Tried {
     let stage = c.stage;
     let mask = draw_mask(c);
     let kinds = find_kinds(mask, stage);
@@ -149,8 +149,7 @@ pub fn try_case(c: Case, given: &[u8]) -> Tried {
 }
 
 pub fn decode_case(c: Case) -> bool {
-    let none = [0u8; 1];
-    let tried = try_case(c, &none);
+    let tried = try_case(c, [0; 4112]);
     tried.right
 }
 
@@ -158,7 +157,7 @@ pub fn decode_case(c: Case) -> bool {
 
 // Whether a word decodes to itself and to its payload of k bits with check 1.
 fn word_right(c: Case, word: Bytes, sent: Bytes, k: usize) -> bool {
-    let tried = try_case(c, &word);
+    let tried = try_case(c, word);
     let out = tried.out;
     let hard = out.hard;
     let payload = out.payload;

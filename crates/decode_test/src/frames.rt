@@ -2,7 +2,8 @@
 use crate::accepted::try_case;
 use reference::cases::Case;
 use reference::outputs::Outputs;
-use test_tools::buffers::bytes;
+use test_tools::buffers::extended;
+use test_tools::buffers::same_front;
 use test_tools::buffers::same_words;
 use test_tools::numbers::both;
 use test_tools::numbers::length_of;
@@ -109,22 +110,15 @@ fn frame_at(i: usize) -> Frame {
     }
 }
 
-// The word that the first two frames decode to, and its payload.
-const WORD: [u8; 8] = [0, 1, 0, 1, 0, 1, 0, 1];
-
-const PAYLOAD: [u8; 4] = [0, 0, 1, 1];
-
+// The first two frames decode to the word 01010101 and its payload 0011.
 fn line_right(out: Outputs) -> bool {
     let hard = out.hard;
     let payload = out.payload;
-    let word = WORD;
-    let sent = PAYLOAD;
+    let word = extended([0, 1, 0, 1, 0, 1, 0, 1]);
+    let sent = extended([0, 0, 1, 1, 0, 0, 0, 0]);
     both(
         out.check == 1,
-        both(
-            check::same(bytes(&hard, 8), &word),
-            check::same(bytes(&payload, 4), &sent),
-        ),
+        both(same_front(hard, word, 8), same_front(payload, sent, 4)),
     )
 }
 
@@ -140,7 +134,7 @@ fn decode_frame(i: usize, f: Frame) -> bool {
     };
     let llrs = f.llrs;
     let want = f.soft;
-    let tried = try_case(c, &llrs);
+    let tried = try_case(c, extended(llrs));
     let out = tried.out;
     let soft = out.soft;
     if !both(tried.right, tried.cycles == f.cycles) {

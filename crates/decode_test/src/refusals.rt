@@ -173,8 +173,7 @@ fn faulty_mask(stage: usize, faults: usize, variant: usize, seed: u32) -> Bytes 
 }
 
 fn faulty_llrs(stage: usize, faults: usize, variant: usize, seed: u32) -> [i16; 2056] {
-    let none = [0u8; 1];
-    let mut llrs = shorts(draw_llrs(3, stage, &none, seed));
+    let mut llrs = shorts(draw_llrs(3, stage, [0; 4112], seed));
     if has(faults, 6) {
         let i = spot(variant, length_of(stage));
         llrs[i] = -32768;

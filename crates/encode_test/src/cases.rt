@@ -7,6 +7,7 @@ use reference::words::spread;
 use test_tools::buffers::Bytes;
 use test_tools::buffers::draw_bits;
 use test_tools::buffers::draw_bytes;
+use test_tools::buffers::extended;
 use test_tools::buffers::same_bytes;
 use test_tools::buffers::same_front;
 use test_tools::buffers::unfrozen;
@@ -71,12 +72,10 @@ pub fn transform_case(n: usize, seed: u32) -> bool
 
 // Frame 9 of document 01: payload 0011 under the mask 11101000 has the word 01010101.
 pub fn frame_case() -> bool {
-    let mask: [u8; 8] = [1, 1, 1, 0, 1, 0, 0, 0];
-    let payload: [u8; 4] = [0, 0, 1, 1];
-    let want: [u8; 8] = [0, 1, 0, 1, 0, 1, 0, 1];
-    let mut word: [u8; 8] = [7; 8];
-    let number = encode::encode(&mask, &payload, &mut word);
-    both(number == 0, check::same(&word, &want))
+    let mask = extended([1, 1, 1, 0, 1, 0, 0, 0]);
+    let payload = extended([0, 0, 1, 1, 0, 0, 0, 0]);
+    let word = extended([0, 1, 0, 1, 0, 1, 0, 1]);
+    is_answer(encode_front(mask, 8, payload, 4, [0; 4112], 8), 0, word)
 }
 
 // ---- refused calls
@@ -114,7 +113,7 @@ fn first_number(faults: usize) -> u32 {
     }
 }
 
-// Drawn bits but for the second of these two bytes, which is 1, or 2 with the fault.
+// Drawn bits with 0 at the front, and then 1 at a place, or 2 with the fault.
 fn faulty_bits(n: usize, place: usize, fault: bool, seed: u32) -> Bytes {
     with_byte(
         with_byte(draw_bits(n, seed), 0, 0),

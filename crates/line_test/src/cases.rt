@@ -1,9 +1,11 @@
 // Cases: the answer to an input, compared with the expected text, also in buffers that are too short for it.
+use crate::texts::Text;
 use crate::texts::put_all;
-use crate::texts::unescape;
+use crate::texts::text_of;
 use test_tools::buffers::bytes;
 use test_tools::buffers::lent_bytes;
 use test_tools::numbers::both;
+use test_tools::numbers::least;
 use test_tools::numbers::one_if;
 use test_tools::report::end_line;
 use test_tools::report::print_values;
@@ -52,31 +54,58 @@ fn with_call(c: Count, right: bool) -> Count {
     )
 }
 
+fn print_line(name: &[u8], text: &[u8]) {
+    io::write_all(1, name);
+    io::write_all(1, text);
+    end_line();
+}
+
+fn print_text(name: &[u8], t: Text) {
+    let text = t.bytes;
+    print_line(name, bytes(&text, t.length));
+}
+
 // A call that differs: the case's number, the buffer, the record with the answer that is expected, and what came.
-fn print_mismatch(number: usize, room: usize, record: &[u8], got: &[u8]) {
+fn print_mismatch(number: usize, room: usize, record: &[u8], got: Text) {
     print_values(
         b"mismatch: case |, buffer of ",
         [number, room, 0, 0, 0, 0, 0, 0],
     );
-    io::write_all(1, b" bytes\n  name|input|expected: ");
-    io::write_all(1, record);
-    io::write_all(1, b"\n  got: ");
-    io::write_all(1, got);
-    end_line();
+    print_line(b" bytes\n  name|input|expected: ", record);
+    print_text(b"  got: ", got);
+}
+
+// The answer to an input in a buffer of so many bytes, and the bytes behind it.
+fn answer(input: Text, room: usize) -> Text {
+    let line = input.bytes;
+    let mut out = [FILLER; 20480];
+    let length = line::answer(bytes(&line, input.length), lent_bytes(&mut out, room));
+    Text { bytes: out, length }
+}
+
+// What that call is to leave: the text, as far as there is room.
+fn expected(text: Text, room: usize) -> Text {
+    let whole = text.bytes;
+    let mut out = [FILLER; 20480];
+    let length = put_all(&mut out, 0, bytes(&whole, least(text.length, room)));
+    Text { bytes: out, length }
+}
+
+fn same_text(a: Text, b: Text) -> bool {
+    let x = a.bytes;
+    let y = b.bytes;
+    both(a.length == b.length, check::same(&x, &y))
 }
 
 // Whether an input's answer in a buffer of so many bytes is the text, as far as there is room, and leaves the bytes behind it.
 // Prints the case if not.
-fn answered(number: usize, record: &[u8], input: &[u8], text: &[u8], room: usize) -> bool {
-    let mut out = [FILLER; 16384];
-    let mut want = [FILLER; 16384];
-    let n = line::answer(input, lent_bytes(&mut out, room));
-    let m = put_all(&mut want, 0, bytes(text, room));
-    let right = both(n == m, check::same(&out, &want));
-    if !right {
-        print_mismatch(number, room, record, bytes(&out, n));
+fn answered(number: usize, record: &[u8], input: Text, text: Text, room: usize) -> bool {
+    let got = answer(input, room);
+    if same_text(got, expected(text, room)) {
+        return true;
     }
-    right
+    print_mismatch(number, room, record, got);
+    false
 }
 
 // The step between the lengths of shorter buffers: every length for a short answer, and about 16 for a long one.
@@ -87,11 +116,12 @@ fn step_for(n: usize) -> usize
 }
 
 // The calls with shorter buffers, counted on.
-fn shorter(c: Count, number: usize, record: &[u8], input: &[u8], text: &[u8]) -> Count {
+fn shorter(c: Count, number: usize, record: &[u8], input: Text, text: Text) -> Count {
+    let length = least(text.length, ROOM);
+    let step = step_for(length);
     let mut total = c;
-    let step = step_for(text.len());
     let mut room = 0;
-    while room < text.len() {
+    while room < length {
         total = with_call(total, answered(number, record, input, text, room));
         room += step;
     }
@@ -99,7 +129,7 @@ fn shorter(c: Count, number: usize, record: &[u8], input: &[u8], text: &[u8]) ->
 }
 
 // A case: a call with room for the answer, and if that is right the calls with shorter buffers.
-fn compared(number: usize, record: &[u8], input: &[u8], text: &[u8]) -> Count {
+fn compared(number: usize, record: &[u8], input: Text, text: Text) -> Count {
     if answered(number, record, input, text, ROOM) {
         shorter(
             Count {
@@ -125,9 +155,7 @@ fn compared(number: usize, record: &[u8], input: &[u8], text: &[u8]) -> Count {
 pub fn run_case(number: usize, record: &[u8]) -> Count {
     let a = find(record, 0, b'|');
     let e = find(record, a + 1, b'|');
-    let mut input = [0u8; 20480];
-    let mut text = [0u8; 16384];
-    let n = unescape(part(record, a + 1, e), &mut input);
-    let m = unescape(part(record, e + 1, record.len()), &mut text);
-    compared(number, record, bytes(&input, n), bytes(&text, m))
+    let input = text_of(part(record, a + 1, e));
+    let text = text_of(part(record, e + 1, record.len()));
+    compared(number, record, input, text)
 }

@@ -37,74 +37,98 @@ fn put_times(s: &mut [u8], from: usize, text: &[u8], count: u32) -> usize {
     at
 }
 
-// Where the next byte goes, and where the rest of the file's text begins.
-struct Places {
+// What stands at a place of a text in the file: `count` times the part from `from` to `end`, or one byte if the count is 0; and the place
+// behind it.
+struct Token {
+    byte: u8,
+    from: usize,
     end: usize,
+    count: u32,
     rest: usize,
 }
 
-// The byte of two digits.
-fn hexadecimal(s: &[u8], at: usize) -> u8
-    requires { ⌜ at ≤ length (now s) + 1 ⌝ }
+fn byte_token(byte: u8, rest: usize) -> Token
+    ensures { λ r. ⌜ rest ≤ r .rest ⌝ }
 {
-    (number(part(s, at, at + 2)) % 256) as u8
+    Token {
+        byte,
+        from: 0,
+        end: 0,
+        count: 0,
+        rest,
+    }
 }
 
 // \(COUNT)TEXT; from its count on.
-fn put_repeated(s: &[u8], at: usize, out: &mut [u8], n: usize) -> Places
+fn repeated_token(s: &[u8], at: usize) -> Token
     requires { ⌜ at ≤ length (now s) + 1 ⌝ }
     ensures { λ r. ⌜ at < r .rest ⌝ }
 {
     let a = find(s, at, b')');
     let e = find(s, a + 1, b';');
-    let count = number(part(s, at, a));
-    Places {
-        end: put_times(out, n, part(s, a + 1, e), count),
+    Token {
+        byte: 0,
+        from: a + 1,
+        end: e,
+        count: number(part(s, at, a)),
         rest: e + 1,
     }
 }
 
-fn put_byte(out: &mut [u8], n: usize, b: u8, rest: usize) -> Places
-    ensures { λ r. ⌜ rest ≤ r .rest ⌝ }
-{
-    Places {
-        end: put(out, n, b),
-        rest,
-    }
-}
-
 // What a backslash and the byte at a place stand for.
-fn put_escaped(s: &[u8], at: usize, out: &mut [u8], n: usize) -> Places
+fn escaped_token(s: &[u8], at: usize) -> Token
     requires { ⌜ at ≤ length (now s) ⌝ }
     ensures { λ r. ⌜ at < r .rest ⌝ }
 {
     match byte_at(s, at) {
-        b'n' => put_byte(out, n, b'\n', at + 1),
-        b'x' => put_byte(out, n, hexadecimal(s, at + 1), at + 3),
-        _ => put_repeated(s, at + 1, out, n),
+        b'n' => byte_token(b'\n', at + 1),
+        b'x' => byte_token((number(part(s, at + 1, at + 3)) % 256) as u8, at + 3),
+        _ => repeated_token(s, at + 1),
     }
 }
 
-// What stands at a place of the file's text.
-fn put_next(s: &[u8], at: usize, out: &mut [u8], n: usize) -> Places
+fn token_at(s: &[u8], at: usize) -> Token
     requires { ⌜ at < length (now s) ⌝ }
     ensures { λ r. ⌜ at < r .rest ⌝ }
 {
     let b = s[at];
-    if b != b'\\' {
-        return put_byte(out, n, b, at + 1);
+    if b == b'\\' {
+        escaped_token(s, at + 1)
+    } else {
+        byte_token(b, at + 1)
     }
-    put_escaped(s, at + 1, out, n)
+}
+
+// Stores what a token stands for, and answers the place behind it.
+fn put_token(out: &mut [u8], n: usize, s: &[u8], t: Token) -> usize {
+    if t.count == 0 {
+        put(out, n, t.byte)
+    } else {
+        put_times(out, n, part(s, t.from, t.end), t.count)
+    }
 }
 
 // The bytes that a text of the file stands for; answers how many.
-pub fn unescape(s: &[u8], out: &mut [u8]) -> usize {
+fn unescape(s: &[u8], out: &mut [u8]) -> usize {
     let mut n = 0;
     let mut at = 0;
     while at < s.len() {
-        let p = put_next(s, at, out, n);
-        n = p.end;
-        at = p.rest;
+        let t = token_at(s, at);
+        n = put_token(out, n, s, t);
+        at = t.rest;
     }
     n
+}
+
+// ---- texts by value
+
+pub struct Text {
+    pub bytes: [u8; 20480],
+    pub length: usize,
+}
+
+pub fn text_of(s: &[u8]) -> Text {
+    let mut bytes = [0u8; 20480];
+    let length = unescape(s, &mut bytes);
+    Text { bytes, length }
 }

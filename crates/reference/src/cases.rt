@@ -4,7 +4,6 @@ use crate::nodes::pattern;
 use crate::values::short;
 use crate::values::with_sign;
 use test_tools::buffers::Bytes;
-use test_tools::buffers::byte_at;
 use test_tools::numbers::bit_if;
 use test_tools::numbers::length_of;
 use test_tools::numbers::next;
@@ -164,14 +163,14 @@ fn llr(style: usize, given: u8, x: u32) -> u64 {
 }
 
 // The N LLRs of a style, as values of the reference.
-pub fn draw_llrs(style: usize, stage: usize, given: &[u8], seed: u32) -> [u64; 1024] {
+pub fn draw_llrs(style: usize, stage: usize, given: Bytes, seed: u32) -> [u64; 1024] {
     let n = length_of(stage);
     let mut llrs = [0u64; 1024];
     let mut x = seed;
     let mut i = 0;
     while i < n {
         x = next(x);
-        llrs[i] = llr(style, byte_at(given, i), x);
+        llrs[i] = llr(style, given[i], x);
         i += 1;
     }
     llrs

@@ -1,10 +1,10 @@
 // Words and payloads by the matrix, whose entry at row i and column j is 1 exactly if the ones of j are among those of i.
 use crate::outputs::Outputs;
 use test_tools::buffers::Bytes;
+use test_tools::buffers::same_front;
 use test_tools::numbers::bit_if;
 use test_tools::numbers::both;
 use test_tools::numbers::choose_byte;
-use test_tools::numbers::either;
 use test_tools::numbers::one_if;
 ghost use Prim.Native.Nat.{_≤_};
 
@@ -50,24 +50,33 @@ pub fn spread(mask: Bytes, payload: Bytes, n: usize) -> Bytes
     bits
 }
 
-// The outputs with the payload and the frozen check that the first n hard bits give.
-pub fn read_word(mask: Bytes, n: usize, out: Outputs) -> Outputs
+// The bits at the unfrozen places of the first n one after another, to the front of `over`.
+fn gather(mask: Bytes, bits: Bytes, n: usize, over: Bytes) -> Bytes
     requires { ⌜ n ≤ 1024 ⌝ }
 {
-    let hard = out.hard;
-    let bits = product(hard, n, hard);
-    let mut payload = out.payload;
-    let mut clear = true;
+    let mut payload = over;
     let mut k = 0;
     let mut j = 0;
     while j < n {
         let unfrozen = mask[j] == 0;
-        clear = both(clear, either(unfrozen, bits[j] == 0));
         payload[k] = choose_byte(unfrozen, bits[j], payload[k]);
         k += one_if(unfrozen);
         j += 1;
     }
+    payload
+}
+
+// The outputs with the payload and the frozen check that the first n hard bits give. All frozen bits are zero exactly if the payload,
+// spread again, gives all bits.
+pub fn read_word(mask: Bytes, n: usize, out: Outputs) -> Outputs
+    requires { ⌜ n ≤ 1024 ⌝ }
+{
     let soft = out.soft;
+    let hard = out.hard;
+    let over = out.payload;
+    let bits = product(hard, n, hard);
+    let payload = gather(mask, bits, n, over);
+    let clear = same_front(bits, spread(mask, payload, n), n);
     Outputs {
         soft,
         hard,

@@ -149,6 +149,17 @@ pub fn with_byte(s: Bytes, i: usize, b: u8) -> Bytes {
     t
 }
 
+// Eight bytes, and zeros behind them.
+pub fn extended(front: [u8; 8]) -> Bytes {
+    let mut s = [0u8; 4112];
+    let mut i = 0;
+    while i < 8 {
+        s[i] = front[i];
+        i += 1;
+    }
+    s
+}
+
 // ---- masks
 
 // How many of the first n positions are unfrozen.

@@ -65,10 +65,6 @@ pub fn both(a: bool, b: bool) -> bool {
     if a { b } else { false }
 }
 
-pub fn either(a: bool, b: bool) -> bool {
-    if a { true } else { b }
-}
-
 // The next pseudo-random number (xorshift).
 pub fn next(x: u32) -> u32 {
     let a = x ^ (x << 13);

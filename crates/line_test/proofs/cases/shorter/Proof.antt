@@ -1,4 +1,4 @@
--- `line_test::cases::shorter` is safe and ends. The loop's invariant: the step is above 0, and at most one above the text's length. Assumes nothing.
+-- `line_test::cases::shorter` is safe and ends. The loop's invariant: the step is above 0 and at most one above the length, which is at most that of a buffer. Assumes nothing.
 use Prim.Native.Nat.{_+_, _-_, _<_, _≤_}
 use lib.ListN.{length}
 use borrow.Author.Needs.{needs}
@@ -6,10 +6,13 @@ use Rattle.line_test.proofs.cases.shorter.Statement.{statement}
 use Rattle.line_test.proofs.cases.shorter.Tie as tie
 
 abbrev Inv-loop : tie.InvT-loop
-Inv-loop number «record» input text total₀ step room₀ total room = (0 < step) × (step ≤ length text + 1)
+Inv-loop number «record» input text length step total₀ room₀ total room = (0 < step) × (step ≤ «length» + 1) × («length» ≤ 16384)
 
 abbrev μ-loop : tie.MeasureT-loop
-μ-loop number «record» input text total₀ step room₀ total room = length text - room
+μ-loop number «record» input text length step total₀ room₀ total room = «length» - room
+
+least-requires : tie.Need-least-requires Inv-loop μ-loop
+least-requires c κs = search needs
 
 step-for-requires : tie.Need-step-for-requires Inv-loop μ-loop
 step-for-requires c κs = search needs
@@ -41,6 +44,7 @@ shorter-spec =
     (tie.spec
     Inv-loop
     μ-loop
+    least-requires
     step-for-requires
     loop-holds
     answered-requires

@@ -1,14 +1,14 @@
--- `reference::cases::draw_llrs` is safe and ends. The loop's invariant: i is at most N. Assumes nothing.
+-- `reference::cases::draw_llrs` is safe and ends. The loop's invariant: i is at most the number of LLRs. Assumes nothing.
 use Prim.Native.Nat.{_-_, _≤_}
 use borrow.Author.Needs.{needs}
 use Rattle.reference.proofs.cases.draw_llrs.Statement.{statement}
 use Rattle.reference.proofs.cases.draw_llrs.Tie as tie
 
 abbrev Inv-loop : tie.InvT-loop
-Inv-loop style stage given seed n llrs₀ x₀ i₀ llrs x i = (i ≤ n) × (n ≤ 1024)
+Inv-loop style stage seed given n llrs₀ x₀ i₀ llrs x i = (i ≤ n) × (n ≤ 1024)
 
 abbrev μ-loop : tie.MeasureT-loop
-μ-loop style stage given seed n llrs₀ x₀ i₀ llrs x i = n - i
+μ-loop style stage seed given n llrs₀ x₀ i₀ llrs x i = n - i
 
 length-of-requires : tie.Need-length-of-requires Inv-loop μ-loop
 length-of-requires c κs = search needs
@@ -19,8 +19,8 @@ loop-holds c = search needs
 next-requires : tie.Need-next-requires Inv-loop μ-loop
 next-requires c κs = search needs
 
-byte-at-requires : tie.Need-byte-at-requires Inv-loop μ-loop
-byte-at-requires c κs = search needs
+array-read-llr : tie.Need-array-read-llr Inv-loop μ-loop
+array-read-llr c = search needs
 
 llr-requires : tie.Need-llr-requires Inv-loop μ-loop
 llr-requires c κs = search needs
@@ -52,7 +52,7 @@ draw-llrs-spec =
     length-of-requires
     loop-holds
     next-requires
-    byte-at-requires
+    array-read-llr
     llr-requires
     mul-llrs
     array-write-llrs
