@@ -29,9 +29,6 @@ module _ {w v : List ℤ} {m x s : ℕ} (h : Scratch w v m x s) where
   size : s ≡ 4 * (s / 4)
   size = omega arith
 
-  pub quarter-all : s / 4 % 1 ≡ 0
-  quarter-all = omega arith
-
   pub quarter-even : s / 4 % 2 ≡ 0
   quarter-even = let e : s / 4 ≡ 2 * (s / 8) = omega arith in rw e (omega arith)
 
