@@ -54,8 +54,22 @@ fn by_list_fours(w: &mut [i32], m: usize, x: usize, l: usize, c: usize, h: usize
     }
 }
 
+// `message_by_list` for halves of two places: the message's four words are stored at once.
+fn by_list_two(w: &mut [i32], m: usize, x: usize, l: usize, c: usize, h: usize)
+    requires { ⌜ Places m x l h c × (c + h ≤ length (now w)) ⌝ }
+    requires { ⌜ InRange (now w) x l h × RightListAt (now w) x l c h ⌝ }
+    requires { ⌜ h ≡ 2 ⌝ }
+    ensures { λ _. ⌜ now (w .exit) ≡ nodeWords (now (w .entry)) m x l h ⌝ }
+{
+    let y = x + h;
+    let r = l + h;
+    let p = pair_by_list(&w[..], l, r, y, c, 0);
+    let q = pair_by_list(&w[..], l, r, y, c, 1);
+    store_four(w, m, p.low, q.low, p.high, q.high);
+}
+
 // The message of `combine::node_message`, where the right child's incoming list w[c + k] = box(w[x + k], w[l + k]) + w[x + h + k] is still at c: less w[x + h + k], its
-// words are the boxes of the second half. A half of fewer than four places is stored by `combine::node_message` itself.
+// words are the boxes of the second half. A half of one place, which no walk has here, goes by the formula.
 pub fn message_by_list(w: &mut [i32], m: usize, x: usize, l: usize, c: usize, h: usize)
     requires { ⌜ Places m x l h c × (c + h ≤ length (now w)) ⌝ }
     requires { ⌜ InRange (now w) x l h × RightListAt (now w) x l c h ⌝ }
@@ -63,6 +77,8 @@ pub fn message_by_list(w: &mut [i32], m: usize, x: usize, l: usize, c: usize, h:
 {
     if h % 4 == 0 {
         by_list_fours(w, m, x, l, c, h);
+    } else if h == 2 {
+        by_list_two(w, m, x, l, c, h);
     } else {
         node_message(w, m, x, l, h);
     }

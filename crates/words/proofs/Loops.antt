@@ -62,3 +62,12 @@ module _ {w₀ w : List ℤ} {m h k : ℕ} {f g : ℕ → ℤ} (s : BothStored w
   -- a word outside both halves is as it was
   pub outside-both : (j : ℕ) → (j < m) ⊎ (m + (h + h) ≤ j) → word w j ≡ word w₀ j
   outside-both j = source-both (pos 0) w₀ w m h k f g j (s .words) (s .few)
+
+-- two words of each half, stored as the four that they are
+pub two-of-both : (w₀ : List ℤ) {v : List ℤ} (m : ℕ) {h : ℕ} (f g : ℕ → ℤ) {p q p′ q′ : ℤ} → h ≡ 2 → v ≡ write w₀ m 4 (four p q p′ q′) → (p ≡ f 0) × (q ≡ f 1) → (p′ ≡ g 0) × (q′ ≡ g 1)
+    → v ≡ write (write w₀ m h f) (m + h) h g
+unfolding write
+two-of-both w₀ m f g two e low high =
+    let here : m + 2 + 0 ≡ m + 2 = omega arith in
+    let next : m + 2 + 1 ≡ m + 3 = omega arith in
+    e ∙ rw (two, low .0, low .1, high .0, high .1, here, next)
