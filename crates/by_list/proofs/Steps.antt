@@ -9,7 +9,7 @@ use native.Mathlib.Omega.{arith}
 use Rattle.words.specs.Words.{Word, Added, word, boxWord, addWord}
 use Rattle.words.proofs.Laws.{add-less}
 use Rattle.words.proofs.Loops.{outside-both}
-use Rattle.halves.specs.Halves.{boxAt, boxPlus, Places, InRange, RightListAt, lowHalf, highHalf}
+use Rattle.halves.specs.Halves.{boxAt, boxPlus, Places, Combinable, RightListAt, lowHalf, highHalf}
 use Rattle.combine.proofs.Steps.{MessageStored}
 use Rattle.by_list.specs.Pairs.{PairAt, boxOf}
 
@@ -19,7 +19,7 @@ pub record ListPlace (w₀ w : List ℤ) (x l c h i : ℕ) : Type 0 where
   pub low : boxPlus w l (x + h) (l + h) i ≡ lowHalf w₀ x l h i
   pub high : addWord (boxOf w c (x + h) i) (word w (l + h + i)) ≡ highHalf w₀ x l h i
 
-pub list-place : {w₀ w : List ℤ} {m x l c h k : ℕ} → Places m x l h c → c + h ≤ length w₀ → InRange w₀ x l h → RightListAt w₀ x l c h → MessageStored w₀ m x l h k w
+pub list-place : {w₀ w : List ℤ} {m x l c h k : ℕ} → Places m x l h c → c + h ≤ length w₀ → Combinable w₀ x l h → RightListAt w₀ x l c h → MessageStored w₀ m x l h k w
     → (i : ℕ) → i < h → ListPlace w₀ w x l c h i
 list-place {w₀} {w} {m} {x} {l} {c} {h} at room range list stored i lt =
     let long = stored .long in

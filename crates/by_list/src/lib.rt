@@ -8,7 +8,7 @@ ghost use mathlib.Core.Path.{_≡_};
 ghost use Prim.Native.Nat.{_+_, _%_, _≤_};
 ghost use lib.ListN.{length};
 ghost use Rattle.words.specs.Words.{addWord, word};
-ghost use Rattle.halves.specs.Halves.{boxPlus, Places, InRange, RightListAt, nodeWords};
+ghost use Rattle.halves.specs.Halves.{boxPlus, Places, Combinable, RightListAt, nodeWords};
 ghost use Rattle.by_list.specs.Pairs.{PairAt, boxOf};
 
 // The words at k of both halves of a message.
@@ -35,7 +35,7 @@ fn pair_by_list(w: &[i32], l: usize, r: usize, y: usize, c: usize, k: usize) -> 
 // `message_by_list` by four places at once.
 fn by_list_fours(w: &mut [i32], m: usize, x: usize, l: usize, c: usize, h: usize)
     requires { ⌜ Places m x l h c × (c + h ≤ length (now w)) ⌝ }
-    requires { ⌜ InRange (now w) x l h × RightListAt (now w) x l c h ⌝ }
+    requires { ⌜ Combinable (now w) x l h × RightListAt (now w) x l c h ⌝ }
     requires { ⌜ h % 4 ≡ 0 ⌝ }
     ensures { λ _. ⌜ now (w .exit) ≡ nodeWords (now (w .entry)) m x l h ⌝ }
 {
@@ -57,7 +57,7 @@ fn by_list_fours(w: &mut [i32], m: usize, x: usize, l: usize, c: usize, h: usize
 // `message_by_list` for halves of two places: the message's four words are stored at once.
 fn by_list_two(w: &mut [i32], m: usize, x: usize, l: usize, c: usize, h: usize)
     requires { ⌜ Places m x l h c × (c + h ≤ length (now w)) ⌝ }
-    requires { ⌜ InRange (now w) x l h × RightListAt (now w) x l c h ⌝ }
+    requires { ⌜ Combinable (now w) x l h × RightListAt (now w) x l c h ⌝ }
     requires { ⌜ h ≡ 2 ⌝ }
     ensures { λ _. ⌜ now (w .exit) ≡ nodeWords (now (w .entry)) m x l h ⌝ }
 {
@@ -72,7 +72,7 @@ fn by_list_two(w: &mut [i32], m: usize, x: usize, l: usize, c: usize, h: usize)
 // words are the boxes of the second half. A half of one place, which no walk has here, goes by the formula.
 pub fn message_by_list(w: &mut [i32], m: usize, x: usize, l: usize, c: usize, h: usize)
     requires { ⌜ Places m x l h c × (c + h ≤ length (now w)) ⌝ }
-    requires { ⌜ InRange (now w) x l h × RightListAt (now w) x l c h ⌝ }
+    requires { ⌜ Combinable (now w) x l h × RightListAt (now w) x l c h ⌝ }
     ensures { λ _. ⌜ now (w .exit) ≡ nodeWords (now (w .entry)) m x l h ⌝ }
 {
     if h % 4 == 0 {

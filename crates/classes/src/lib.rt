@@ -1,5 +1,6 @@
 // What is gathered over a class of places of a node's incoming list: sums, the two least sizes, the product of the signs. A class is the places that are
 // equal modulo a period p.
+use words::MARK_SIZE;
 use words::abs_word;
 use words::max_word;
 use words::min_word;
@@ -90,8 +91,8 @@ fn gather(l: &[i32], p: usize, c: usize) -> Gathered
     requires { ⌜ ((k : ℕ) → Word (word (now l) k)) ⌝ }
     ensures { λ r. ⌜ r ≡ gatherClass p (now (l .entry)) c ⌝ }
 {
-    let mut m1 = 2147483647u32;
-    let mut m2 = 2147483647u32;
+    let mut m1 = MARK_SIZE;
+    let mut m2 = MARK_SIZE;
     let mut neg = false;
     let mut i = c;
     while i < l.len() {
@@ -194,7 +195,7 @@ pub fn fold(w: &mut [i32], m: usize, x: usize, q: usize)
     requires { ⌜ Words (now w) x (4 * q) ⌝ }
     ensures { λ _. ⌜ now (w .exit) ≡ write (write (now (w .entry)) m q (lowAt (drop x (now (w .entry))) q)) (m + q) q (highAt (drop x (now (w .entry))) q) ⌝ }
 {
-    let n = m + q;
+    let next = m + q;
     let x1 = x + q;
     let x2 = x1 + q;
     let x3 = x2 + q;
@@ -207,7 +208,7 @@ pub fn fold(w: &mut [i32], m: usize, x: usize, q: usize)
         let low = least_of(a, b, c, d);
         let high = keep_sign(parity_of(a, b, c, d), next_of(a, b, c, d));
         w[m + k] = low;
-        w[n + k] = high;
+        w[next + k] = high;
         k += 1;
     }
 }
@@ -218,14 +219,14 @@ fn gather_folded(w: &[i32], m: usize, q: usize, p: usize, c: usize) -> Gathered
     requires { ⌜ ((k : ℕ) → k < q → negative (word (now w) (m + k)) ≡ false) ⌝ }
     ensures { λ r. ⌜ ((l : List ℤ) → length l ≡ 4 * q → Holds (now (w .entry)) m q (lowAt l q) → Holds (now (w .entry)) (m + q) q (highAt l q) → r ≡ gatherClass p l c) ⌝ }
 {
-    let n = m + q;
-    let mut m1 = 2147483647u32;
-    let mut m2 = 2147483647u32;
+    let next = m + q;
+    let mut m1 = MARK_SIZE;
+    let mut m2 = MARK_SIZE;
     let mut neg = false;
     let mut i = c;
     while i < q {
         let low = w[m + i] as u32;
-        let x = w[n + i];
+        let x = w[next + i];
         let high = kept_size(x);
         m2 = min_size(min_size(m2, high), max_size(low, m1));
         m1 = min_size(low, m1);

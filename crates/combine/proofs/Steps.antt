@@ -11,7 +11,7 @@ use mir.Facts.{toZ-ofZ}
 use Rattle.words.specs.Words.{Word, word}
 use Rattle.words.proofs.Signed.{fits-word}
 use Rattle.words.proofs.Loops.{BothStored, outside-both}
-use Rattle.halves.specs.Halves.{Places, InRange, lowHalf, highHalf}
+use Rattle.halves.specs.Halves.{Places, Combinable, lowHalf, highHalf}
 
 -- the first k words of both halves of the message are stored
 abbrev pub MessageStored : List ℤ → (m x l h k : ℕ) → List ℤ → Type 0
@@ -28,7 +28,7 @@ pub record Turn (w₀ w : List ℤ) (x l h k : ℕ) : Type 0 where
   pub left : read w (l + k) ≡ word w₀ (l + k)
   pub right : read w (l + h + k) ≡ word w₀ (l + h + k)
 
-pub turn-reads : {w₀ w : List ℤ} {m x l h k end : ℕ} → Places m x l h end → InRange w₀ x l h → MessageStored w₀ m x l h k w → k < h → Turn w₀ w x l h k
+pub turn-reads : {w₀ w : List ℤ} {m x l h k end : ℕ} → Places m x l h end → Combinable w₀ x l h → MessageStored w₀ m x l h k w → k < h → Turn w₀ w x l h k
 turn-reads {w₀} {w} {m} {x} {l} {h} {k} at range stored lt = record {
   first = at-entry (x + k) (inr (omega arith)) (range .first k lt);
   second = at-entry (x + h + k) (inr (omega arith)) (omega (arith, range .sums k lt .0));

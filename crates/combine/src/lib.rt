@@ -7,13 +7,13 @@ ghost use lib.IntN.{pos};
 ghost use lib.ListN.{length};
 ghost use Rattle.model.specs.Soft.{mark};
 ghost use Rattle.words.specs.Words.{Holds};
-ghost use Rattle.halves.specs.Halves.{Places, InRange, nodeWords};
+ghost use Rattle.halves.specs.Halves.{Places, Combinable, nodeWords};
 
 // The message of a node of size 2h, stored at m: its incoming list is at x, its left child's message at l and its right child's at l + h.
 // w[m + k] = box(w[l + k], w[x + h + k] + w[l + h + k]) and w[m + h + k] = box(w[x + k], w[l + k]) + w[l + h + k]
 pub fn node_message(w: &mut [i32], m: usize, x: usize, l: usize, h: usize)
     requires { ⌜ Places m x l h (length (now w)) ⌝ }
-    requires { ⌜ InRange (now w) x l h ⌝ }
+    requires { ⌜ Combinable (now w) x l h ⌝ }
     ensures { λ _. ⌜ now (w .exit) ≡ nodeWords (now (w .entry)) m x l h ⌝ }
 {
     let y = x + h;
@@ -34,7 +34,7 @@ pub fn node_message(w: &mut [i32], m: usize, x: usize, l: usize, h: usize)
 // The same message, where the left child's is certain everywhere: a box with it is the other word.
 pub fn message_left_certain(w: &mut [i32], m: usize, x: usize, l: usize, h: usize)
     requires { ⌜ Places m x l h (length (now w)) ⌝ }
-    requires { ⌜ InRange (now w) x l h ⌝ }
+    requires { ⌜ Combinable (now w) x l h ⌝ }
     requires { ⌜ Holds (now w) l h (λ k. pos mark) ⌝ }
     ensures { λ _. ⌜ now (w .exit) ≡ nodeWords (now (w .entry)) m x l h ⌝ }
 {
@@ -55,7 +55,7 @@ pub fn message_left_certain(w: &mut [i32], m: usize, x: usize, l: usize, h: usiz
 // The same message, where the right child's is 0 everywhere: a sum with it is the other word.
 pub fn message_right_zero(w: &mut [i32], m: usize, x: usize, l: usize, h: usize)
     requires { ⌜ Places m x l h (length (now w)) ⌝ }
-    requires { ⌜ InRange (now w) x l h ⌝ }
+    requires { ⌜ Combinable (now w) x l h ⌝ }
     requires { ⌜ Holds (now w) (l + h) h (λ k. pos 0) ⌝ }
     ensures { λ _. ⌜ now (w .exit) ≡ nodeWords (now (w .entry)) m x l h ⌝ }
 {

@@ -20,7 +20,7 @@ use Rattle.words.specs.Words.{write}
 use Rattle.words.proofs.Store.{write-is}
 use Rattle.transform.specs.Calls.{transformNumber, transformBytes}
 use Rattle.decisions.specs.Bits.{decisionAt}
-use Rattle.decisions.specs.Bits.{Sized, Readable, wordDecisions}
+use Rattle.decisions.specs.Bits.{BitsRoom, Readable, wordDecisions}
 use Rattle.decisions.proofs.Buffers.{length-over}
 
 -- the front of an overwritten buffer, and what follows it
@@ -56,7 +56,7 @@ transform-done : (v : List ℕ) → (exponent (length v) ≡ 0 → ⊥) → tran
 unfolding transformBytes transformNumber refusal
 transform-done v h = rw (ne-eqb (exponent (length v)) 0 h)
 
-pub bits-law : (hard u copied v : List ℕ) (n : ℕ) → Sized n (length hard) (length u) → copied ≡ over (take n hard) u → v ≡ transformBytes (take n copied)
+pub bits-law : (hard u copied v : List ℕ) (n : ℕ) → BitsRoom n (length hard) (length u) → copied ≡ over (take n hard) u → v ≡ transformBytes (take n copied)
     → v ++ drop n copied ≡ over (transform (exponent n) (take n hard)) u
 unfolding over
 bits-law hard u copied v n room ec ev =

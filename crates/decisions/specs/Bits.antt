@@ -20,7 +20,7 @@ abbrev pub wordDecisions : List ℤ → List ℤ → ℕ → List ℕ
 wordDecisions llrs soft N = tabulate N (decisionAt llrs soft)
 
 -- room for a word of N bits
-pub record Sized (N from to : ℕ) : Type 0 where
+pub record BitsRoom (N from to : ℕ) : Type 0 where
   pub length-allowed : exponent N ≡ 0 → ⊥
   pub from-room : N ≤ from
   pub to-room : N ≤ to

@@ -12,7 +12,7 @@ ghost use Rattle.model.specs.Encoding.{isUnfrozen, unfrozen, payloadOf, frozenZ
 ghost use Rattle.model.specs.Encoding as encoding;
 ghost use Rattle.model.specs.Refusals.{exponent};
 ghost use Rattle.words.specs.Words.{word, write, Added};
-ghost use Rattle.decisions.specs.Bits.{decisionAt, wordDecisions, Sized, Readable};
+ghost use Rattle.decisions.specs.Bits.{decisionAt, wordDecisions, BitsRoom, Readable};
 
 // The hard bits: 1 exactly if LLR plus soft is negative.
 fn decide(llrs: &[i16], soft: &[i32], hard: &mut [u8], size: usize)
@@ -67,7 +67,7 @@ fn frozen_check(mask: &[u8], u: &[u8]) -> u8
     (most == 0) as u8
 }
 
-// The first n bytes of `from` to the front of `to`.
+// The first bytes of `from`, as many as `size` says, to the front of `to`.
 fn copy_bytes(from: &[u8], to: &mut [u8], size: usize)
     requires { ⌜ (size ≤ length (now from)) × (size ≤ length (now to)) ⌝ }
     ensures { λ _. ⌜ now (to .exit) ≡ over (take size (now (from .entry))) (now (to .entry)) ⌝ }
@@ -79,9 +79,9 @@ fn copy_bytes(from: &[u8], to: &mut [u8], size: usize)
     }
 }
 
-// The decoded u, to the front of u: the transform of the hard word of n bits.
+// The decoded u, to the front of u: the transform of the hard word of N bits.
 fn decoded_bits(hard: &[u8], u: &mut [u8], size: usize)
-    requires { ⌜ Sized size (length (now hard)) (length (now u)) ⌝ }
+    requires { ⌜ BitsRoom size (length (now hard)) (length (now u)) ⌝ }
     ensures { λ _. ⌜ now (u .exit) ≡ over (encoding.transform (exponent size) (take size (now (hard .entry)))) (now (u .entry)) ⌝ }
 {
     copy_bytes(hard, u, size);

@@ -1,7 +1,7 @@
 -- A decode's answer and buffers, from its steps to the definitions. Assumes nothing.
 use mathlib.Core.Path.{_≡_, refl, sym, _∙_, ap, ap₂, subst}
 use mathlib.Core.Bool.{Bool, true, false, cond}
-use mathlib.Core.List.{List, [], _∷_, _++_, map}
+use mathlib.Core.List.{List, [], _∷_, map}
 use Prim.Native.Nat.{ℕ, zero, suc, _+_, _*_, _^_, _<_, _≤_}
 use native.Mathlib.Nat.{zero-add, mul-le-mul}
 use native.Mathlib.Omega.{arith}
@@ -27,7 +27,7 @@ use Rattle.words.proofs.Store.{write-in, length-write}
 use Rattle.scan.specs.Space.{Decodable}
 use Rattle.decisions.specs.Bits.{decisionAt, wordDecisions, Readable}
 use Rattle.decisions.proofs.Reading.{write-front}
-use Rattle.decode.specs.Calls.{Lent, lent, Given, callOf, Outcome}
+use Rattle.decode.specs.Calls.{lent, Given, callOf, Outcome}
 use Rattle.decode.specs.Steps.{inputNumber, Passed}
 use Rattle.model.specs.Plans as plans
 

@@ -13,6 +13,7 @@ pub record Lent : Type 0 where
   pub payload : List ℕ
   pub work : List ℤ
 
+-- such buffers by their contents
 abbrev pub lent : List ℤ → List ℕ → List ℕ → List ℤ → Lent
 lent soft hard payload work = record { soft = soft; hard = hard; payload = payload; work = work }
 
@@ -24,6 +25,7 @@ pub record Given : Type 0 where
   pub llrs : List ℤ
   pub buffers : Lent
 
+-- such a call by its parts
 abbrev pub given : List ℕ → List ℕ → ℕ → List ℤ → Lent → Given
 given mask plan sweeps llrs buffers = record { mask = mask; plan = plan; sweeps = sweeps; llrs = llrs; buffers = buffers }
 

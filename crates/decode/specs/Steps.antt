@@ -27,6 +27,7 @@ pub record Passed (mask plan : List ℕ) (sweeps : ℕ) (llrs : List ℤ) (cycle
   pub range : T (llrsInRange llrs)
   pub cycles-is : cycles ≡ plans.cycles plan stage 1 mask
 
+-- what the tests of the inputs find
 pub record InputTests (mask plan : List ℕ) (sweeps : ℕ) (llrs : List ℤ) (number cycles stage : ℕ) : Type 0 where
   pub number-is : number ≡ inputNumber mask plan sweeps llrs
   pub passed : number ≡ 0 → Passed mask plan sweeps llrs cycles stage

@@ -12,7 +12,6 @@ use words::fill;
 use words::widened;
 ghost use mathlib.Core.Path.{_≡_};
 ghost use mathlib.Core.List.{[], _∷_};
-ghost use lib.ListN.{length};
 ghost use Rattle.model.specs.Refusals.{llrsInRange, refusal, row-3, row-4, row-11, row-12};
 ghost use Rattle.decode.specs.Calls.{lent, given, Outcome};
 ghost use Rattle.decode.specs.Steps.{InputTests};

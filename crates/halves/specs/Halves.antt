@@ -47,7 +47,7 @@ pub record Places (m x l h end : ℕ) : Type 0 where
   pub list : x + (h + h) ≤ end
 
 -- what is read, and each sum on the way, is `Word`, and a sum's first part is finite
-pub record InRange (w : List ℤ) (x l h : ℕ) : Type 0 where
+pub record Combinable (w : List ℤ) (x l h : ℕ) : Type 0 where
   pub first : Words w x h
   pub left : Words w l h
   pub right : Words w (l + h) h

@@ -5,7 +5,7 @@ use mathlib.Core.List.{List, [], _∷_}
 use Prim.Native.Nat.{ℕ, _^_, _≤_}
 use native.Mathlib.Omega.{arith}
 use borrow.Author.Tests.{eq-eqb, ne-eqb, eqb-false, not-true}
-use lib.Dec.{T, eqb}
+use lib.Dec.{eqb}
 use lib.ListN.{length}
 use lib.Pow.{pow-mono}
 use Rattle.model.specs.Lists.{atMost}
@@ -32,7 +32,7 @@ module _ (mask : List ℕ) {stage : ℕ} (e : stage ≡ exponent (length mask)) 
   number-found b s q = q ∙ rw (e, s, b)
 
   pub mask-tests : {bytes : Bool} {second number : ℕ} → bytes ≡ atMost maxMask mask → second ≡ cond bytes 0 2 → number ≡ cond (not (eqb stage 0)) second 1 → MaskTests mask number stage
-  mask-tests b s q = record { number-is = number-found b s q; passed = λ z. mask-passed (sym (number-found b s q) ∙ z) }
+  mask-tests b s q = record { stage-is = e; number-is = number-found b s q; passed = λ z. mask-passed (sym (number-found b s q) ∙ z) }
 
 -- N is at most 1024
 pub passed-few : {mask : List ℕ} {stage : ℕ} → MaskPassed mask stage → length mask ≤ 1024

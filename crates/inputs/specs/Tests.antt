@@ -16,7 +16,8 @@ pub record MaskPassed (mask : List ℕ) (stage : ℕ) : Type 0 where
   pub low : stage ≤ 10
   pub bytes : T (atMost maxMask mask)
 
--- the number of tests 1 and 2, and what holds where it is 0
+-- the number of tests 1 and 2, the exponent of N, and what holds where the number is 0
 pub record MaskTests (mask : List ℕ) (number stage : ℕ) : Type 0 where
+  pub stage-is : stage ≡ exponent (length mask)
   pub number-is : number ≡ refusal (row-1 (length mask) ∷ row-2 mask ∷ [])
   pub passed : number ≡ 0 → MaskPassed mask stage

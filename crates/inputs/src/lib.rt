@@ -13,13 +13,13 @@ ghost use Rattle.inputs.specs.Tests.{MaskTests};
 pub const UNFROZEN: u8 = 0;
 
 // The largest mask byte.
-pub const MAX_MASK: u8 = 1;
+const MAX_MASK: u8 = 1;
 
 // Sweeps run from 1 to this.
-pub const MAX_SWEEPS: usize = 16;
+const MAX_SWEEPS: usize = 16;
 
 // An LLR is within ± this.
-pub const MAX_LLR: i32 = 32767;
+const MAX_LLR: i32 = 32767;
 
 // Whether both tests are passed.
 pub fn both(a: bool, b: bool) -> bool
@@ -65,7 +65,7 @@ pub fn at_most(bytes: &[u8], top: u8) -> bool
 }
 
 // Whether no byte of a mask is too large.
-pub fn mask_bytes(mask: &[u8]) -> bool
+fn mask_bytes(mask: &[u8]) -> bool
     ensures { λ r. ⌜ r ≡ atMost maxMask (now (mask .entry)) ⌝ }
 {
     at_most(mask, MAX_MASK)

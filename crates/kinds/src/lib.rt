@@ -34,6 +34,7 @@ pub struct Row {
     pub fixed: bool,
 }
 
+// A row by its columns.
 fn columns(place: usize, cycles: u32, fixed: bool) -> Row
     ensures { λ r. ⌜ (r .place ≡ place) × (r .cycles ≡ cycles) × (r .fixed ≡ fixed) ⌝ }
 {
@@ -144,7 +145,7 @@ pub fn cut_kind(mask: &[u8]) -> Kind
 }
 
 // Whether a node that is known to be of some kind is a rate-0 node: its last position decides.
-pub fn is_rate_zero(mask: &[u8]) -> bool
+fn is_rate_zero(mask: &[u8]) -> bool
     requires { ⌜ T (isSome (kindOf (length (now mask)) (now mask))) ⌝ }
     ensures { λ r. ⌜ r ≡ isKind rate-0 (kindOf (length (now (mask .entry))) (now (mask .entry))) ⌝ }
 {
@@ -152,7 +153,7 @@ pub fn is_rate_zero(mask: &[u8]) -> bool
 }
 
 // Whether a node that is known to be of some kind is a rate-1 node: its first position decides.
-pub fn is_rate_one(mask: &[u8]) -> bool
+fn is_rate_one(mask: &[u8]) -> bool
     requires { ⌜ T (isSome (kindOf (length (now mask)) (now mask))) ⌝ }
     ensures { λ r. ⌜ r ≡ isKind rate-1 (kindOf (length (now (mask .entry))) (now (mask .entry))) ⌝ }
 {

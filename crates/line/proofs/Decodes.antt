@@ -1,18 +1,18 @@
 -- A decode of a line's mask, sweeps and LLRs: it is accepted, and what it leaves at the front of its buffers is SCAN's answer. Assumes nothing.
-use mathlib.Core.Path.{_≡_, refl, sym, ap, ap₂, _∙_}
-use mathlib.Core.Bool.{Bool, true, false, _&&_}
-use mathlib.Core.List.{List, [], _∷_, map}
+use mathlib.Core.Path.{_≡_, sym, ap, ap₂, _∙_}
+use mathlib.Core.Bool.{Bool, true, _&&_}
+use mathlib.Core.List.{List, [], map}
 use Prim.Native.Nat.{ℕ, _+_, _*_, _^_, _≤_, _<_, min}
 use native.Mathlib.Nat.{mul-le-mul}
 use native.Mathlib.Omega.{arith}
 use borrow.Author.Tests.{eq-eqb, ne-eqb, le-leb}
-use lib.Dec.{T, eqb, leb}
+use lib.Dec.{eqb}
 use lib.IntN.{ℤ}
 use lib.ListN.{length, take, drop, length-map, length-take}
 use lib.Seq.{take-at}
 use Rattle.model.specs.Lists.{over}
 use Rattle.model.specs.Soft.{Soft, finite, wordOf, _at_, softOf}
-use Rattle.model.specs.Encoding.{unfrozen, transform, payloadOf}
+use Rattle.model.specs.Encoding.{unfrozen}
 use Rattle.model.specs.Scan.{scan, hardWord, decided, Decoded, decodeScan}
 use Rattle.model.specs.Bounds.{Under, limit}
 use Rattle.model.specs.Plans.{Allowed, isPlan, oneCut, cutsOfKinds, cycles}

@@ -1,12 +1,11 @@
 -- The answer to a line, from its number and from what reading it leaves in the buffers. Assumes nothing.
-use mathlib.Core.Path.{_≡_, refl, sym, ap, _∙_}
+use mathlib.Core.Path.{_≡_, sym, ap, _∙_}
 use mathlib.Core.List.{List}
 use Prim.Native.Nat.{ℕ, _≤_}
 use native.Mathlib.Omega.{arith}
 use borrow.Author.Tests.{eq-eqb, ne-eqb}
 use lib.IntN.{ℤ}
 use lib.ListN.{length, take, length-take}
-use Rattle.model.specs.Refusals.{accepted}
 use Rattle.fields.specs.Grammar.{Reading, readLine}
 use Rattle.reader.specs.Answers.{maskOf, sweepsOf, llrsOf, lineNumber, lineSize, lineSweeps, lineMask, lineLlrs}
 use Rattle.reader.specs.Steps.{Fit}

@@ -5,7 +5,6 @@ use planner::plan_mask;
 use printer::print_decoded;
 use printer::print_refusal;
 use reader::read_line;
-ghost use mathlib.Core.Path.{_≡_};
 ghost use lib.ListN.{length};
 ghost use Rattle.model.specs.Plans.{Allowed};
 ghost use Rattle.model.specs.Refusals.{exponent};

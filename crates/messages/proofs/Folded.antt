@@ -15,13 +15,13 @@ use Rattle.words.proofs.Store.{length-write, write-in, write-below, write-above
 use Rattle.messages.proofs.Messages.{partOf}
 
 -- v: w after the s words from x on were folded into the words from m on
-pub record Scratch (w v : List ℤ) (m x s : ℕ) : Type 0 where
+pub record FoldedPlace (w v : List ℤ) (m x s : ℕ) : Type 0 where
   pub apart : m + s ≤ x
   pub fit : x + s ≤ length w
   pub eighths : s % 8 ≡ 0
   pub stores : v ≡ write (write w m (s / 4) (lowAt (drop x w) (s / 4))) (m + s / 4) (s / 4) (highAt (drop x w) (s / 4))
 
-module _ {w v : List ℤ} {m x s : ℕ} (h : Scratch w v m x s) where
+module _ {w v : List ℤ} {m x s : ℕ} (h : FoldedPlace w v m x s) where
   abbrev q : ℕ
   q = s / 4
 

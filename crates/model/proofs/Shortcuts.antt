@@ -12,7 +12,7 @@ use lib.Seq.{take-at, drop-at}
 use native.Mathlib.Decide.{decLe}
 use Rattle.model.specs.Lists.{tabulate, same}
 use Rattle.model.specs.Soft.{Soft, certain, softZero, _at_, box, plus}
-use Rattle.model.specs.Encoding.{isUnfrozen, frozenToZero}
+use Rattle.model.specs.Encoding.{frozenToZero}
 use Rattle.model.specs.Scan.{Tree, message, left, right, leafValue, start, toLeft, toRight, toNode, visit}
 use Rattle.model.specs.Kinds.{Kind, rate-0, rate-1, REP, SPC, type-I, type-III, order, leastSize, butLast, onlyFirst, pattern, fits, firstOf, kindOf, others, shortcut}
 use Rattle.model.proofs.Lists.{double, getD-tabulate, tabulate-ext, tabulate-halves, and-l, and-r, same→eq, le-of-pow}

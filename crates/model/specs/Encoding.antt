@@ -50,7 +50,7 @@ pub record Mask (n : ℕ) (mask : List ℕ) : Type 0 where
 abbrev pub isUnfrozen : ℕ → Bool
 isUnfrozen m = eqb m 0
 
--- 1 for each frozen position, 0 for each unfrozen one
+-- a mask as one that is frozen to zero: 1 for each frozen position, 0 for each unfrozen one
 unfoldable pub frozenToZero : List ℕ → List ℕ
 frozenToZero mask = map (λ m. cond (isUnfrozen m) 0 1) mask
 

@@ -9,6 +9,7 @@ use Rattle.model.specs.Lists.{tabulate, total, same}
 use Rattle.model.specs.Soft.{Soft, certain, softZero, _at_, box, plus}
 use Rattle.model.specs.Encoding.{frozenToZero}
 
+-- the table's first column
 pub data Kind : Type 0 where
   rate-0 rate-1 REP SPC type-I type-III : Kind
 
@@ -42,7 +43,7 @@ leastSize SPC = 2
 leastSize type-I = 4
 leastSize type-III = 4
 
--- column "cycles": a cut node's own
+-- a cut node's own cycles in the latency model
 abbrev pub ownCycles : Kind → ℕ
 ownCycles rate-0 = 0
 ownCycles rate-1 = 0
@@ -77,6 +78,7 @@ shortcut type-III m L = tabulate m (others box certain 2 m L)
 abbrev pub fits : ℕ → List ℕ → Kind → Bool
 fits m mask k = leb (leastSize k) m && same (frozenToZero mask) (pattern k m)
 
+-- the first of a list that passes a test
 unfoldable pub firstOf : (Kind → Bool) → List Kind → Option Kind
 firstOf f [] = none
 firstOf f (k ∷ ks) = cond (f k) (some k) (firstOf f ks)
@@ -85,6 +87,7 @@ firstOf f (k ∷ ks) = cond (f k) (some k) (firstOf f ks)
 unfoldable pub kindOf : ℕ → List ℕ → Option Kind
 kindOf m mask = firstOf (fits m mask) order
 
+-- whether there is a kind
 abbrev pub isSome : Option Kind → Bool
 isSome none = false
 isSome (some k) = true
@@ -107,6 +110,7 @@ placeIn (j ∷ js) k = cond (eqb (tag j) (tag k)) 0 (suc (placeIn js k))
 abbrev pub row : Kind → ℕ
 row k = placeIn order k
 
+-- whether a node's kind is k
 abbrev pub isKind : Kind → Option Kind → Bool
 isKind k none = false
 isKind k (some j) = eqb (row k) (row j)

@@ -42,6 +42,7 @@ maxSweeps = 16
 abbrev pub isLlr : ℤ → Bool
 isLlr z = leb (natAbs z) maxLlr
 
+-- every number of a list is an LLR
 unfoldable pub llrsInRange : List ℤ → Bool
 llrsInRange [] = true
 llrsInRange (z ∷ zs) = isLlr z && llrsInRange zs

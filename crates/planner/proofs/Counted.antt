@@ -12,7 +12,7 @@ use lib.ListN.{length, take, drop, getD, replicate, length-set}
 use lib.Pow.{pow-pos, pow-mono}
 use lib.Seq.{getD-set-same, getD-set-other, set-out, take-all}
 use Rattle.model.specs.Lists.{bit, tabulate}
-use Rattle.model.specs.Kinds.{Kind, rate-0, rate-1, REP, SPC, type-I, type-III, order, row, isSome, isKind, kindOf}
+use Rattle.model.specs.Kinds.{Kind, order, row, isSome, isKind, kindOf}
 use Rattle.model.specs.Plans.{isCut, noCut, cutsOf, counts, plannerPlan}
 use Rattle.model.proofs.Lists.{cond-both, true-T, and-l, and-r}
 use Rattle.model.proofs.Planner.{Chosen, planner-chosen}

@@ -2,7 +2,7 @@
 use Prim.Native.Nat.{ℕ, zero, suc, _+_, _*_, _^_, _≤_}
 use mathlib.Core.Bool.{cond}
 use mathlib.Core.List.{List}
-use lib.ListN.{take, drop, set, getD, length}
+use lib.ListN.{take, drop, set, getD}
 use Rattle.model.specs.Kinds.{isSome, kindOf}
 use Rattle.kinds.specs.Runs.{rowOf}
 

@@ -12,13 +12,13 @@ ghost use Rattle.model.specs.Refusals.{planNumber, planBytes, planCounts};
 ghost use Rattle.plans.specs.Nodes.{Node};
 ghost use Rattle.planner.specs.Writing.{written, counted, Free};
 
-// Sets the first n bytes to 0.
-fn zero_front(plan: &mut [u8], n: usize)
-    requires { ⌜ n ≤ length (now plan) ⌝ }
-    ensures { λ _. ⌜ now (plan .exit) ≡ replicate n 0 ++ drop n (now (plan .entry)) ⌝ }
+// Sets the first bytes to 0, as many as `count` says.
+fn zero_front(plan: &mut [u8], count: usize)
+    requires { ⌜ count ≤ length (now plan) ⌝ }
+    ensures { λ _. ⌜ now (plan .exit) ≡ replicate count 0 ++ drop count (now (plan .entry)) ⌝ }
 {
     let mut i = 0;
-    while i < n {
+    while i < count {
         plan[i] = 0;
         i += 1;
     }

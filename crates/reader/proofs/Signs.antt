@@ -1,12 +1,12 @@
 -- Signed numbers by the tests of the code: the range of an LLR, and sweeps as a count. Assumes nothing.
-use mathlib.Core.Path.{_≡_, refl, sym, subst}
+use mathlib.Core.Path.{_≡_, refl, subst}
 use mathlib.Core.Bool.{true, false}
 use Prim.Native.Nat.{suc}
 use native.Mathlib.Omega.{arith}
 use lib.Dec.{T}
 use lib.IntN.{ℤ, pos, negsuc, natAbs}
-use lib.Signed.{ltZ, leZ}
-use borrow.Author.Tests.{lt-leb, le-leb, leb-true, ltb-true, ltb-false}
+use lib.Signed.{ltZ}
+use borrow.Author.Tests.{leb-true, ltb-true}
 use mir.Syntax.{w16}
 use mir.Val.{SFits}
 use Rattle.reader.specs.Answers.{count}

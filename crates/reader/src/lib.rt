@@ -178,9 +178,9 @@ fn read_fields(line: &[u8], mask: &mut [u8], llrs: &mut [i16]) -> Line
     if r.number != 0 {
         return r;
     }
-    let n = r.size;
-    store_digits(&line[..n], mask);
-    store_llrs(&read[..n], llrs);
+    let size = r.size;
+    store_digits(&line[..size], mask);
+    store_llrs(&read[..size], llrs);
     r
 }
 
@@ -190,12 +190,12 @@ pub fn read_line(bytes: &[u8], mask: &mut [u8; 1024], llrs: &mut [i16; 1024]) ->
     ensures { λ _. ⌜ now (mask .exit) ≡ lineMask (readLine (now (bytes .entry))) (now (mask .entry)) ⌝ }
     ensures { λ _. ⌜ now (llrs .exit) ≡ lineLlrs (readLine (now (bytes .entry))) (now (llrs .entry)) ⌝ }
 {
-    let n = find(bytes, 0, b'\n');
-    if n == bytes.len() {
+    let end = find(bytes, 0, b'\n');
+    if end == bytes.len() {
         return refused(13);
     }
-    if MAX_LINE <= n {
+    if MAX_LINE <= end {
         return refused(13);
     }
-    read_fields(&bytes[..n], mask, llrs)
+    read_fields(&bytes[..end], mask, llrs)
 }

@@ -1,15 +1,15 @@
 -- The planner's answer to a C host: the cycles of one sweep are those of the plan that was written. Assumes nothing.
 use Prim.Native.Nat.{ℕ, _*_, _≤_}
 use native.Mathlib.Omega.{arith}
-use mathlib.Core.Path.{_≡_, sym, _∙_}
-use mathlib.Core.Bool.{Bool, true, false, _&&_}
+use mathlib.Core.Path.{_≡_, _∙_}
+use mathlib.Core.Bool.{true, false}
 use mathlib.Core.List.{List}
 use borrow.Author.Tests.{ne-eqb}
 use lib.Dec.{eqb}
 use lib.ListN.{length, take}
 use Rattle.model.specs.Lists.{atMost}
 use Rattle.model.specs.Encoding.{maxMask}
-use Rattle.model.specs.Plans.{isPlan, oneCut, cutsOfKinds, Allowed, cycles, plannerPlan}
+use Rattle.model.specs.Plans.{isPlan, oneCut, cutsOfKinds, Allowed, cycles}
 use Rattle.model.specs.Refusals.{refusal, exponent, planNumber, planBytes, planCounts, checkNumber, checkCycles}
 use Rattle.model.proofs.Lists.{T-true}
 use Rattle.planner.proofs.Results.{passed, front, planner-result}

@@ -16,7 +16,7 @@ use Rattle.model.proofs.Lists.{double, tabulate-ext}
 use Rattle.model.proofs.Algebra.{plus-comm, plus-zero-r}
 use Rattle.model.proofs.Bounds.{small-box, small-plus, under-box, under-plus, under-mono, small-mono}
 use Rattle.words.specs.Words.{Word, Added, word, soft, write, Holds, boxWord, addWord, Words}
-use Rattle.halves.specs.Halves.{boxAt, boxPlus, plusBox, Sums, BoxSums, FiniteBoxSums, InRange, lowHalf, highHalf}
+use Rattle.halves.specs.Halves.{boxAt, boxPlus, plusBox, Sums, BoxSums, FiniteBoxSums, Combinable, lowHalf, highHalf}
 use Rattle.words.proofs.Laws.{word-soft, soft-at, small-under, small-size, under-word, soft-box, soft-add, add-word}
 use Rattle.words.proofs.Store.{source-below}
 use Rattle.model.specs.Lists.{part}
@@ -266,7 +266,7 @@ module _ {N t b x : ℕ} {w v : List ℤ} {A B : Tree} (begin : Visiting N t b x
       pub up-sums : BoxSums v x (t * N + b) (t * N + b + 2 ^ t) (2 ^ t)
       up-sums k lt = plus-box-word _ _ _ _ _ _ (at-low k lt) (at-left k lt) (at-right k lt) (boxed-in (message A at k) k lt) (up-top k lt)
 
-      pub in-range : InRange v x (t * N + b) (2 ^ t)
+      pub in-range : Combinable v x (t * N + b) (2 ^ t)
       in-range = record { first = words-list; left = words-left left-under; right = words-right; sums = left-sums; box-sums = up-sums }
 
       -- the two halves of the message

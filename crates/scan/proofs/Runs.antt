@@ -20,7 +20,7 @@ use Rattle.model.proofs.PlannedWalk.{walk-cut, walk-through, descend}
 use Rattle.model.proofs.Paths.{wellCut-cut, wellCut-through}
 use Rattle.model.proofs.Bounds.{cap-suc, small-toLeft, small-toRight, held-walk, held-message}
 use Rattle.words.specs.Words.{Holds, word, soft, write, Words}
-use Rattle.halves.specs.Halves.{boxAt, boxPlus, plusBox, Sums, FiniteBoxSums, InRange, RightListAt, lowHalf, nodeWords}
+use Rattle.halves.specs.Halves.{boxAt, boxPlus, plusBox, Sums, FiniteBoxSums, Combinable, RightListAt, lowHalf, nodeWords}
 use Rattle.words.proofs.Store.{source-below, length-write}
 use Rattle.kinds.specs.Known.{FixedAs}
 use Rattle.model.specs.Lists.{part}
@@ -68,7 +68,7 @@ RightDone plan mask N p b x h u c first skip w v = Done plan mask N u (2 * p + 1
 -- child's, and w₅ after the node's message is stored; a child's message is known to be certain, or 0, as a and z say
 -- after both children: what the node's message asks, and what the visit ends with
 pub record AfterRight (plan mask : List ℕ) (N t p b x : ℕ) (first : Bool) (w : List ℤ) (h u c : ℕ) (a₁ a₃ z₃ : Bool) (w₄ : List ℤ) : Type 0 where
-  pub message-asked : InRange w₄ x (u * N + b) h × ((a₁ ≡ true → Holds w₄ (u * N + b) h (λ k. pos mark)) × ((z₃ ≡ true → Holds w₄ (u * N + b + h) h (λ k. pos 0))
+  pub message-asked : Combinable w₄ x (u * N + b) h × ((a₁ ≡ true → Holds w₄ (u * N + b) h (λ k. pos mark)) × ((z₃ ≡ true → Holds w₄ (u * N + b + h) h (λ k. pos 0))
       × ((a₃ || z₃) ≡ false → RightListAt w₄ x (u * N + b) c h)))
   pub visited : {w₅ : List ℤ} → w₅ ≡ nodeWords w₄ (t * N + b) x (u * N + b) h → Visited plan mask N t p b x first w w₅
 

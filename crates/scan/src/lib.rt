@@ -22,7 +22,7 @@ ghost use mathlib.Core.List.{map};
 ghost use Rattle.model.specs.Soft.{finite, mark};
 ghost use Rattle.model.specs.Scan.{scan};
 ghost use Rattle.words.specs.Words.{stored, write, Holds};
-ghost use Rattle.halves.specs.Halves.{Places, InRange, RightListAt, nodeWords};
+ghost use Rattle.halves.specs.Halves.{Places, Combinable, RightListAt, nodeWords};
 ghost use mathlib.Core.Bool.{true, false, cond, _||_};
 ghost use Rattle.scan.specs.Space.{Room, Visited, Ready, Swept, withLlrs, Decodable};
 
@@ -51,7 +51,7 @@ fn own_message(
     h: usize,
 )
     requires { ⌜ Places m x l h c × (c + h ≤ length (now w)) ⌝ }
-    requires { ⌜ InRange (now w) x l h ⌝ }
+    requires { ⌜ Combinable (now w) x l h ⌝ }
     requires { ⌜ (left .certain ≡ true → Holds (now w) l h (λ k. pos mark)) ⌝ }
     requires { ⌜ (right .zero ≡ true → Holds (now w) (l + h) h (λ k. pos 0)) ⌝ }
     requires { ⌜ ((right .certain || right .zero) ≡ false → RightListAt (now w) x l c h) ⌝ }

@@ -7,8 +7,10 @@ ghost use lib.Signed.{ltZ};
 ghost use lib.ListN.{length};
 ghost use Rattle.words.specs.Words.{boxWord, addWord, Word, Added, word, write, four, Finite};
 
-// The word that stands for certain.
+// The word that stands for certain, and its size.
 pub const MARK: i32 = 2147483647;
+
+pub const MARK_SIZE: u32 = MARK as u32;
 
 // The smaller of two words.
 pub fn min_word(a: i32, b: i32) -> i32
@@ -53,7 +55,7 @@ pub fn box_words(a: i32, b: i32) -> i32
 }
 
 // x if b, else y
-pub fn pick_word(b: bool, x: i32, y: i32) -> i32
+fn pick_word(b: bool, x: i32, y: i32) -> i32
     ensures { λ r. ⌜ r ≡ cond b x y ⌝ }
 {
     if b { x } else { y }
@@ -132,12 +134,12 @@ pub fn load_llrs(w: &mut [i32], m: usize, llrs: &[i16])
 }
 
 // out[m + k] = w[x + k]
-pub fn copy_words(w: &[i32], x: usize, out: &mut [i32], m: usize, n: usize)
-    requires { ⌜ (x + n ≤ length (now w)) × (m + n ≤ length (now out)) ⌝ }
-    ensures { λ _. ⌜ now (out .exit) ≡ write (now (out .entry)) m n (λ k. word (now (w .entry)) (x + k)) ⌝ }
+pub fn copy_words(w: &[i32], x: usize, out: &mut [i32], m: usize, count: usize)
+    requires { ⌜ (x + count ≤ length (now w)) × (m + count ≤ length (now out)) ⌝ }
+    ensures { λ _. ⌜ now (out .exit) ≡ write (now (out .entry)) m count (λ k. word (now (w .entry)) (x + k)) ⌝ }
 {
     let mut k = 0;
-    while k < n {
+    while k < count {
         let v = w[x + k];
         out[m + k] = v;
         k += 1;

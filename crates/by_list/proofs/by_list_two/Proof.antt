@@ -1,5 +1,5 @@
 -- `by_list::by_list_two` meets its contract: the four words are those of both halves. Assumes nothing.
-use mathlib.Core.Path.{_≡_, _∙_}
+use mathlib.Core.Path.{_∙_}
 use Prim.Native.Nat.{ℕ, _<_}
 use native.Mathlib.Omega.{arith}
 use Rattle.words.proofs.Signed.{back}

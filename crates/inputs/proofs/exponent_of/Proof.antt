@@ -1,4 +1,4 @@
--- `inputs::exponent_of` meets its contract. The loop's invariant: n is no larger power, and `power` is 2 ^ t. Assumes nothing.
+-- `inputs::exponent_of` meets its contract. The loop's invariant: the size is no larger power, and `power` is 2 ^ t. Assumes nothing.
 use mathlib.Core.Path.{_≡_, refl, sym, _∙_}
 use Prim.Native.Nat.{_≤_, _^_}
 use borrow.Author.Needs.{needs}

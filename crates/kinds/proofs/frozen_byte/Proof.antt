@@ -1,7 +1,6 @@
 -- `kinds::frozen_byte` meets its contract. Assumes nothing.
-use mathlib.Core.Path.{_≡_, sym, ap}
+use mathlib.Core.Path.{sym, ap}
 use mathlib.Core.Bool.{Bool, cond}
-use Prim.Native.Nat.{ℕ}
 use borrow.Author.Tests.{eq-eqb, ne-eqb}
 use Rattle.kinds.proofs.frozen_byte.Statement.{statement}
 use Rattle.kinds.proofs.frozen_byte.Tie as tie

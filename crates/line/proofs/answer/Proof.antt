@@ -1,9 +1,5 @@
 -- `line::answer` meets its contract: a refused line is answered by its number, and an accepted one by its decode. Assumes nothing.
-use mathlib.Core.Path.{_≡_, sym, _∙_}
-use Prim.Native.Nat.{_≤_}
 use native.Mathlib.Omega.{arith}
-use lib.ListN.{length}
-use lib.Seq.{length-take-le}
 use Rattle.line.proofs.Decodes.{reprinted}
 use Rattle.line.proofs.Replies.{refused-text, long-enough, Accepted, accept, mask-count, llrs-count, line-fit, accepted-text}
 use borrow.Author.Needs.{needs}

@@ -8,7 +8,7 @@ use Rattle.classes.specs.LeastSizes.{gatherAll}
 use Rattle.extrinsic.specs.Values.{leaveOut, gatheredAt}
 use Rattle.messages.proofs.Sizes.{divides-four}
 use Rattle.messages.proofs.Messages.{partOf, words-in, sizes-small, box-at}
-use Rattle.messages.proofs.Folded.{Scratch, quarter-even, folded-length, folded-fits, list-kept, words-kept, message-over, part-four, low-holds, high-holds, low-sizes}
+use Rattle.messages.proofs.Folded.{FoldedPlace, quarter-even, folded-length, folded-fits, list-kept, words-kept, message-over, part-four, low-holds, high-holds, low-sizes}
 use Rattle.messages.proofs.box_large.Statement.{statement}
 use Rattle.messages.proofs.box_large.Tie as tie
 
@@ -19,7 +19,7 @@ fold-requires c κs =
     let p = s .pre .0 in
     ((omega arith, omega arith), λ k lt. words-in (a .w .now) (a .x) (a .s) (p .1) (s .pre .1) k (omega arith))
 
-scratch : (c : tie.After-fold) → let a = c .before .before .args in Scratch (a .w .now) (c .fold .last .0) (a .m) (a .x) (a .s)
+scratch : (c : tie.After-fold) → let a = c .before .before .args in FoldedPlace (a .w .now) (c .fold .last .0) (a .m) (a .x) (a .s)
 scratch c = let p = c .before .before .pre .0 in record { apart = p .0; fit = p .1; eighths = p .4; stores = c .fold .ensures }
 
 gather-all-folded-requires : tie.Need-gather-all-folded-requires

@@ -38,7 +38,7 @@ same-length c = c .before .loop .inv .2
 returns : tie.Need-returns Inv-loop μ-loop
 returns c =
     let l = c .before .loop in
-    let q : l .i ≡ c .before .before .args .n = omega arith in
+    let q : l .i ≡ c .before .before .args .count = omega arith in
     l .inv .1 ∙ ap (λ (i : ℕ). replicate i 0 ++ drop i (c .before .before .args .plan .now)) q
 
 pub zero-front-spec : {M : Type 1} → statement M

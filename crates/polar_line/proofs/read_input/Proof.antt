@@ -1,7 +1,6 @@
 -- `polar_line::read_input` meets its contract: it reads on only while there is room and no line feed has come. Assumes nothing beyond the contract of `libc::read`.
 use mathlib.Core.Path.{_≡_, refl, sym, ap, _∙_}
-use mathlib.Core.List.{List}
-use Prim.Native.Nat.{ℕ, _+_, _-_, _≤_}
+use Prim.Native.Nat.{_+_, _-_, _≤_}
 use native.Mathlib.Omega.{arith}
 use lib.ListN.{length, take}
 use lib.Seq.{length-take-le}

@@ -3,12 +3,11 @@ use mathlib.Core.Path.{sym, ap, _∙_}
 use Prim.Native.Nat.{ℕ, _+_, _<_}
 use native.Mathlib.Omega.{arith}
 use borrow.Author.Tests.{not-true, not-false}
-use lib.ListN.{length, take}
+use lib.ListN.{length}
 use lib.Seq.{length-take-le}
 use mir.Facts.{toZ-ofZ}
 use mir.Syntax.{w32}
 use mir.Val.{SFits}
-use Rattle.fields.specs.Grammar.{fields}
 use Rattle.fields.specs.Steps.{fieldAt, rest}
 use Rattle.fields.proofs.Bytes.{says-value, says-none}
 use Rattle.fields.proofs.Split.{next-most}
