@@ -281,7 +281,7 @@ uint64_t plain_decode(const uint8_t *mask, size_t n, const uint8_t *plan, size_t
     if (!t) return 1;
     if (above_one(mask, n)) return 2;
     if (llrs_length != n) return 3;
-    if (sweeps < 1 || sweeps > 16) return 4;
+    if (sweeps < 1 || sweeps > 8) return 4;
     uint32_t cycles = 0;
     uint64_t number = test_plan(mask, n, plan, plan_length, &cycles);
     if (number) return number;

@@ -34,7 +34,7 @@ static uint64_t damage(decode_arguments *a, int way) {
     case 1: a->mask[N - 1] = 2; return 2;
     case 2: a->llrs_length = N - 1; return 3;
     case 3: a->sweeps = 0; return 4;
-    case 4: a->sweeps = 17; return 4;
+    case 4: a->sweeps = 9; return 4;
     case 5: a->plan_length = 2 * N - 1; return 5;
     case 6: a->plan[2 * N - 1] = 2; return 5;
     case 7: a->plan[0] = 1; return 5;

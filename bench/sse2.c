@@ -359,7 +359,7 @@ uint64_t sse2_decode(const uint8_t *mask, size_t n, const uint8_t *plan, size_t 
     if (n < 2 || n > 1024 || (n & (n - 1))) return 1;
     if (above_one(mask, n)) return 2;
     if (llrs_length != n) return 3;
-    if (sweeps < 1 || sweeps > 16) return 4;
+    if (sweeps < 1 || sweeps > 8) return 4;
     if (plan_length != 2 * n || above_one(plan, 2 * n) || plan[0]) return 5;
     uint16_t frozen[1024 + 1];
     step steps[4 * 1024], zeros[1024];

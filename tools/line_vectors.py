@@ -17,7 +17,7 @@ import sys
 random.seed(13)
 CERTAIN = 'certain'      # the mark, which is larger than every number
 ALLOWED = [2 ** n for n in range(1, 11)]
-MOST_SWEEPS = 16
+MOST_SWEEPS = 8
 LONGEST = 16384
 LARGEST_LLR = 32767
 
@@ -199,7 +199,7 @@ def frames(file):
 def answers(file):
     for name, line, expected in [
             ('K 0', b'11 3 -7 -4\n', 'ok 0 inf inf 00 - 1\n'),
-            ('K 0, N 4', b'1111 16 -1 -2 -3 -4\n', 'ok 0 inf inf inf inf 0000 - 1\n'),
+            ('K 0, N 4', b'1111 8 -1 -2 -3 -4\n', 'ok 0 inf inf inf inf 0000 - 1\n'),
             ('K 0, N 8', b'11111111 1 0 0 0 0 0 0 0 0\n', 'ok 0 inf inf inf inf inf inf inf inf 00000000 - 1\n'),
             ('K N, N 4', b'0000 1 1 -2 3 -4\n', 'ok 0 0 0 0 0 0101 '),
             ('K N, N 8', b'00000000 2 -1 -1 -1 -1 -1 -1 -1 -1\n', 'ok 0 0 0 0 0 0 0 0 0 11111111 00000001 1\n'),
@@ -239,7 +239,7 @@ def line_ends(file):
             ('an empty second line', b'10 1 7 -4\n\n', 'ok 2 -4 7 '),
             ('more without a line feed', b'10 1 7 -4\n5', 'ok 2 -4 7 '),
             ('rubbish behind the line', b'10 1 7 -4\n\0\xff x|\\\r\n-', 'ok 2 -4 7 '),
-            ('rubbish behind a refused line', b'10 17 7 -4\n\0\xff x\n', 4),
+            ('rubbish behind a refused line', b'10 9 7 -4\n\0\xff x\n', 4),
             ('a line behind a malformed one', b'10 1 7 x\n10 1 7 -4\n', 13)]:
         file.case(name, data, expected)
     file.group('ends of the line')
@@ -338,12 +338,13 @@ def numbers(file):
             ('sweeps -0', b'10 -0 7 -4\n', 4),
             ('sweeps 1', b'10 1 7 -4\n', ok),
             ('sweeps 2', b'10 2 7 -4\n', 'ok 4 -4 7 '),
-            ('sweeps 15', b'1011 15 5 -3 2 1\n', 'ok 90 '),
-            ('sweeps 16', b'1011 16 5 -3 2 1\n', 'ok 96 '),
-            ('sweeps 16 with leading zeros', b'1011 0016 5 -3 2 1\n', 'ok 96 '),
-            ('sweeps 17', b'1011 17 5 -3 2 1\n', 4),
+            ('sweeps 7', b'1011 7 5 -3 2 1\n', 'ok 42 '),
+            ('sweeps 8', b'1011 8 5 -3 2 1\n', 'ok 48 '),
+            ('sweeps 8 with leading zeros', b'1011 008 5 -3 2 1\n', 'ok 48 '),
+            ('sweeps 9', b'1011 9 5 -3 2 1\n', 4),
+            ('sweeps 16', b'1011 16 5 -3 2 1\n', 4),
             ('sweeps -1', b'10 -1 7 -4\n', 4),
-            ('sweeps -16', b'10 -16 7 -4\n', 4),
+            ('sweeps -8', b'10 -8 7 -4\n', 4),
             ('sweeps 256', b'10 256 7 -4\n', 4),
             ('sweeps 257', b'10 257 7 -4\n', 4),
             ('sweeps 65537', b'10 65537 7 -4\n', 4),
@@ -417,8 +418,8 @@ def long_lines(file):
             ('16384 bytes of mask', b'1' * 16379 + b' 1 1\n', 1),
             ('16384 bytes of mask alone', b'1' * 16383 + b'\n', 13),
             ('16384 bytes of spaces', b' ' * 16383 + b'\n', 13),
-            ('16384 bytes, sweeps too large', padded(16384, b'10 17 7 -4\n', sweeps), 4),
-            ('16385 bytes, sweeps too large', padded(16385, b'10 17 7 -4\n', sweeps), 13),
+            ('16384 bytes, sweeps too large', padded(16384, b'10 9 7 -4\n', sweeps), 4),
+            ('16385 bytes, sweeps too large', padded(16385, b'10 9 7 -4\n', sweeps), 13),
             ('16384 bytes, LLR too large', padded(16384, b'10 1 7 32768\n', 7), 7),
             ('16384 bytes, number too large', padded(16384, b'10 1 7 2147483648\n', 7), 13),
             ('16384 bytes, 2 to the power 64', padded(16384, b'10 1 7 18446744073709551616\n', 7), 13)]:
@@ -431,19 +432,19 @@ def large_lines(file):
     for n in (256, 512, 1024):
         m = n - 1
         for name, mask, sweeps, llrs, expected in [
-                ('K 0', '1' * n, 16, [-7] * n, 'ok 0' + ' inf' * n + ' ' + '0' * n + ' - 1\n'),
-                ('K N', '0' * n, 16, [-7] * n, 'ok 0' + ' 0' * n + ' ' + '1' * n + ' ' + '0' * m + '1 1\n'),
+                ('K 0', '1' * n, 8, [-7] * n, 'ok 0' + ' inf' * n + ' ' + '0' * n + ' - 1\n'),
+                ('K N', '0' * n, 8, [-7] * n, 'ok 0' + ' 0' * n + ' ' + '1' * n + ' ' + '0' * m + '1 1\n'),
                 ('REP', '1' * m + '0', 1, [-32767] * n, 'ok 2' + f' {-32767 * m}' * n + ' ' + '1' * n + ' 1 1\n'),
-                ('REP, 16 sweeps', '1' * m + '0', 16, [32767] * n, 'ok 32' + f' {32767 * m}' * n + ' ' + '0' * n + ' 0 1\n'),
+                ('REP, 8 sweeps', '1' * m + '0', 8, [32767] * n, 'ok 16' + f' {32767 * m}' * n + ' ' + '0' * n + ' 0 1\n'),
                 ('SPC', '1' + '0' * m, 1, [5] * n, 'ok 2' + ' 5' * n),
                 ('SPC, one negative', '1' + '0' * m, 3, [5] * m + [-1], 'ok 6' + ' -1' * m + ' 5 '),
                 ('type I', '1' * (n - 2) + '00', 2, [2, -3] * (n // 2), 'ok 4' + f' {2 * (n // 2 - 1)} {-3 * (n // 2 - 1)}' * (n // 2)),
-                ('type III', '11' + '0' * (n - 2), 16, [2, -3] * (n // 2), 'ok 32' + ' 2 -3' * (n // 2)),
+                ('type III', '11' + '0' * (n - 2), 8, [2, -3] * (n // 2), 'ok 16' + ' 2 -3' * (n // 2)),
                 ('alternating mask', '10' * (n // 2), 1, [1, -2, 3, 4] * (n // 4), f'ok {4 * n - 6} '),
-                ('other half frozen', '0' * (n // 2) + '1' * (n // 2), 16, [1, -2, 3, 4] * (n // 4), 'ok 32 '),
+                ('other half frozen', '0' * (n // 2) + '1' * (n // 2), 8, [1, -2, 3, 4] * (n // 4), 'ok 16 '),
                 ('1 LLR fewer', '10' * (n // 2), 1, [1] * m, 3),
                 ('1 LLR more', '10' * (n // 2), 1, [1] * (n + 1), 3),
-                ('sweeps 17', '10' * (n // 2), 17, [1] * n, 4),
+                ('sweeps 9', '10' * (n // 2), 9, [1] * n, 4),
                 ('last digit 2', '10' * (n // 2 - 1) + '12', 1, [1] * n, 2),
                 ('last LLR 32768', '10' * (n // 2), 1, [1] * m + [32768], 7),
                 ('first LLR -32768', '10' * (n // 2), 1, [-32768] + [1] * m, 7),
@@ -465,7 +466,7 @@ def faulty(file):
             'two spaces': lambda t: t.replace(b' ', b'  ', 1), 'LLR beyond 32 bits': lambda t: t[:-1] + b'99999999999\n'}
     for variant, (mask, bad_length, digit, sweeps, bad_sweeps, llr, bad_llr) in enumerate([
             (b'1011', b'101', b'2', b'1', b'0', b'1', b'32768'),
-            (b'10', b'1', b'9', b'16', b'17', b'-32767', b'-32768'),
+            (b'10', b'1', b'9', b'8', b'9', b'-32767', b'-32768'),
             (b'11101000', b'111010001', b'3', b'2', b'-1', b'0', b'-2147483648')]):
         for set_of in range(32):
             faults = [f for k, f in enumerate([1, 2, 3, 4, 7]) if set_of >> k & 1]
@@ -523,7 +524,7 @@ def changed(line):
     fields = line[:-1].split(b' ')
     k = random.randrange(len(fields))
     byte = bytes([random.choice(b'0123456789 -\n\r+\t') if random.getrandbits(2) else random.randrange(256)])
-    number = str(random.choice([0, 1, 2, 16, 17, -1, 32767, 32768, -32768, 2 ** 31 - 1, 2 ** 31, -2 ** 31, -2 ** 31 - 1])).encode()
+    number = str(random.choice([0, 1, 2, 8, 9, -1, 32767, 32768, -32768, 2 ** 31 - 1, 2 ** 31, -2 ** 31, -2 ** 31 - 1])).encode()
     return random.choice([
         lambda: line[:place] + byte + line[place + 1:],
         lambda: line[:place] + byte + line[place:],

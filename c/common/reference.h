@@ -10,7 +10,7 @@
 #include <stddef.h>
 #include <stdint.h>
 
-enum { REF_MAX_N = 1024, REF_MAX_STAGE = 10, REF_MAX_SWEEPS = 16, REF_KINDS = 6 };
+enum { REF_MAX_N = 1024, REF_MAX_STAGE = 10, REF_MAX_SWEEPS = 8, REF_KINDS = 6 };
 
 /* n of N = 2^n, from 1 to 10; 0 of any other number. */
 int ref_exponent(size_t N);

@@ -44,7 +44,7 @@ extern "C" {
 
 #define RUZNAVO_MIN_N 2
 #define RUZNAVO_MAX_N 1024
-#define RUZNAVO_MAX_SWEEPS 16
+#define RUZNAVO_MAX_SWEEPS 8
 #define RUZNAVO_MAX_LLR 32767
 
 /* The soft value "certain". */

@@ -352,7 +352,7 @@ struct rooms {
 };
 
 static void damage_decode(struct random *r, struct code *c, struct plan *p, int16_t *llrs, struct rooms *m) {
-    static const size_t bad_sweeps[] = {0, 17, 18, 256, SIZE_MAX};
+    static const size_t bad_sweeps[] = {0, 9, 16, 65537, SIZE_MAX};
     switch (random_below(r, 9)) {
     case 0: damage_mask(r, c); break;
     case 1: m->llrs = other_length(r, c->N); break;

@@ -51,7 +51,7 @@ fn drawn_case(stage: usize, i: usize, llrs: usize, seed: u32) -> Case {
         detail: (seed / 16 % 11) as usize,
         plan: i / 16 % 4,
         llrs,
-        sweeps: 1 + (seed % 16) as usize,
+        sweeps: 1 + (seed % 8) as usize,
         seed,
     }
 }
@@ -64,7 +64,7 @@ fn mask_case(stage: usize, i: usize, seed: u32) -> Case {
         detail: i % 256,
         plan: i / 256 % 4,
         llrs: i / 1024 % 8,
-        sweeps: 1 + (seed % 16) as usize,
+        sweeps: 1 + (seed % 8) as usize,
         seed,
     }
 }
@@ -77,7 +77,7 @@ fn kind_case(stage: usize, i: usize, seed: u32) -> Case {
         detail: i / 6 % 11,
         plan: i / 66 % 4,
         llrs: (seed / 16 % 8) as usize,
-        sweeps: 1 + (seed % 16) as usize,
+        sweeps: 1 + (seed % 8) as usize,
         seed,
     }
 }

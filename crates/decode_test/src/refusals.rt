@@ -88,7 +88,7 @@ fn wrong_byte(variant: usize) -> u8 {
 }
 
 fn wrong_sweeps(variant: usize) -> usize {
-    pick(variant, 0, 17, 18446744073709551615, 65537)
+    pick(variant, 0, 9, 16, 65537)
 }
 
 // ---- plans
@@ -199,7 +199,7 @@ fn faulty_lengths(stage: usize, k: usize, faults: usize, variant: usize) -> Leng
     Lengths {
         mask: choose(has(faults, 0), wrong_length(n, variant), n),
         plan: choose(has(faults, 4), wrong_plan_length(n, variant), 2 * n),
-        sweeps: choose(has(faults, 3), wrong_sweeps(variant), 1 + variant % 12),
+        sweeps: choose(has(faults, 3), wrong_sweeps(variant), 1 + variant % 8),
         llrs: choose(has(faults, 2), wrong_length(n, variant), n),
         soft: room(has(faults, 7), n, variant),
         hard: room(has(faults, 8), n, variant),

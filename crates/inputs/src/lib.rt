@@ -16,7 +16,7 @@ pub const UNFROZEN: u8 = 0;
 const MAX_MASK: u8 = 1;
 
 // Sweeps run from 1 to this.
-const MAX_SWEEPS: usize = 16;
+const MAX_SWEEPS: usize = 8;
 
 // An LLR is within ± this.
 const MAX_LLR: i32 = 32767;

@@ -36,7 +36,7 @@ exponent N = exponentTo 10 N
 
 -- sweeps run from 1 to this
 abbrev pub maxSweeps : ℕ
-maxSweeps = 16
+maxSweeps = 8
 
 -- whether a number is an LLR; of 16-bit numbers only -32768 is not
 abbrev pub isLlr : ℤ → Bool

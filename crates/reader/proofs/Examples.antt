@@ -58,7 +58,7 @@ unfolding readLine readFields firstOf fields allDigits valueFrom isNumber value 
 refused = refl
 
 -- 13 before all others: `2 x`; then, with LLRs `7 -4` unless said: mask 1, mask 12 with sweeps 0, mask 10 with one LLR and sweeps 0, with no LLR,
--- with sweeps 0, -1 and 17, an LLR of 32768 and of -32768, and accepted: -32767, sweeps 16, and bytes behind the line feed
+-- with sweeps 0, -1 and 9, an LLR of 32768 and of -32768, and accepted: -32767, sweeps 8, and bytes behind the line feed
 abbrev lines : List (List ℕ)
 lines =
     (50 ∷ 32 ∷ 120 ∷ 10 ∷ [])
@@ -68,11 +68,11 @@ lines =
     ∷ (49 ∷ 48 ∷ 32 ∷ 49 ∷ 10 ∷ [])
     ∷ (49 ∷ 48 ∷ 32 ∷ 48 ∷ llrs)
     ∷ (49 ∷ 48 ∷ 32 ∷ 45 ∷ 49 ∷ llrs)
-    ∷ (49 ∷ 48 ∷ 32 ∷ 49 ∷ 55 ∷ llrs)
+    ∷ (49 ∷ 48 ∷ 32 ∷ 57 ∷ llrs)
     ∷ (49 ∷ 48 ∷ 32 ∷ 49 ∷ 32 ∷ 51 ∷ 50 ∷ 55 ∷ 54 ∷ 56 ∷ 32 ∷ 49 ∷ 10 ∷ [])
     ∷ (49 ∷ 48 ∷ 32 ∷ 49 ∷ 32 ∷ 45 ∷ 51 ∷ 50 ∷ 55 ∷ 54 ∷ 56 ∷ 32 ∷ 49 ∷ 10 ∷ [])
     ∷ (49 ∷ 48 ∷ 32 ∷ 49 ∷ 32 ∷ 45 ∷ 51 ∷ 50 ∷ 55 ∷ 54 ∷ 55 ∷ 32 ∷ 49 ∷ 10 ∷ [])
-    ∷ (49 ∷ 48 ∷ 32 ∷ 49 ∷ 54 ∷ llrs ++ (120 ∷ 10 ∷ []))
+    ∷ (49 ∷ 48 ∷ 32 ∷ 56 ∷ llrs ++ (120 ∷ 10 ∷ []))
     ∷ []
   where
     llrs : List ℕ
