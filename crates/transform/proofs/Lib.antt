@@ -1,5 +1,4 @@
-pub mod Filled
-pub mod Blocks
+pub mod EachBlock
+pub mod WordSums
 pub mod StrideLoop
-pub mod Pairs
 pub mod Answers

@@ -1,19 +1,21 @@
 -- The loop over the strides: before stride 2 ^ t there are 2 ^ (n - t) blocks of 2 ^ t bits, each transformed. Assumes nothing.
 use mathlib.Core.Path.{_≡_, refl, sym, _∙_, ap, ap₂, subst}
 use mathlib.Core.List.{List}
-use Prim.Native.Nat.{ℕ, suc, _+_, _-_, _*_, _/_, _^_, _≤_, _<_, zero-le}
+use Prim.Native.Nat.{ℕ, suc, _+_, _-_, _*_, _/_, _^_, _%_, _≤_, _<_}
 use native.Mathlib.Numerals.{add-one}
 use native.Mathlib.Omega.{arith}
 use lib.ListN.{length}
 use lib.Pow.{pow-add, pow-mono}
 use Rattle.model.specs.Encoding.{transform}
 use Rattle.model.proofs.Lists.{double}
-use Rattle.transform.specs.Steps.{AllBits, addHalves}
-use Rattle.transform.proofs.Blocks.{blocks, blocks-start, blocks-end, add-halves-step}
+use Rattle.blocks.specs.Steps.{eachBlock, addHalves}
+use Rattle.blocks.proofs.Blocks.{blocks, blocks-end, add-halves-step}
+use Rattle.transform.proofs.EachBlock.{each-blocks}
 
 -- u has become v
 pub record Strided (n t h count : ℕ) (u v : List ℕ) : Type 0 where
   pub within : t ≤ n
+  pub words : h % 8 ≡ 0
   pub stride : h ≡ 2 ^ t
   pub many : count ≡ 2 ^ (n - t)
   pub size : length v ≡ 2 ^ n
@@ -62,6 +64,7 @@ module _ (n t h count : ℕ) (l : t < n) (p : h ≡ 2 ^ t) (q : count ≡ 2 ^ (n
   strided-more u v w s e f =
       record {
         within = omega arith;
+        words = omega (arith, s .words);
         stride = halved .stride;
         many = half;
         size = e ∙ s .size;
@@ -69,18 +72,29 @@ module _ (n t h count : ℕ) (l : t < n) (p : h ≡ 2 ^ t) (q : count ≡ 2 ^ (n
             ∙ add-halves-step t (count / 2) u ∙ ap (λ (x : ℕ). blocks x (count / 2) u) (sym (add-one t));
       }
 
-pub strided-none : (n : ℕ) (u : List ℕ) → length u ≡ 2 ^ n → AllBits u → Strided n 0 1 (length u) u u
-strided-none n u e b =
-    record {
-      within = zero-le;
-      stride = refl;
-      many = e ∙ ap (λ (x : ℕ). 2 ^ x) none;
-      size = e;
-      done = blocks-start u b;
-    }
+-- sixteen times as many bytes as blocks
+pub sixteenths : (n size : ℕ) → 4 ≤ n → size ≡ 2 ^ n → (size ≡ size / 16 * 16) × (size / 16 ≡ 2 ^ (n - 4))
+sixteenths n size l e = go (2 ^ (n - 4)) (e ∙ ap (λ (x : ℕ). 2 ^ x) sum ∙ pow-add 2 (n - 4) 4)
   where
-    none : n ≡ n - 0
-    none = omega arith
+    sum : n ≡ n - 4 + 4
+    sum = omega arith
+
+    go : (x : ℕ) → size ≡ x * 16 → (size ≡ size / 16 * 16) × (size / 16 ≡ x)
+    go x p = (omega arith, omega arith)
+
+-- the strides below 16 are done
+pub strided-sixteens : (n : ℕ) (u v : List ℕ) → 4 ≤ n → length u ≡ 2 ^ n → length v ≡ length u → v ≡ eachBlock (transform 4) 16 (length u / 16) u
+    → Strided n 4 16 (length u / 16) u v
+strided-sixteens n u v l e k d =
+    let parts = sixteenths n (length u) l e in
+    record {
+      within = l;
+      words = refl;
+      stride = refl;
+      many = parts .1;
+      size = k ∙ e;
+      done = d ∙ each-blocks 4 (length u / 16) u (parts .0);
+    }
 
 pub strided-all : (n t h count : ℕ) (u v : List ℕ) → n ≤ t → Strided n t h count u v → v ≡ transform n u
 strided-all n t h count u v l s =

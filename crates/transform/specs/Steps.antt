@@ -1,23 +1,10 @@
--- What the loops inside the transform leave. Assumes nothing.
-use Prim.Native.Nat.{ℕ, zero, suc, _+_, _*_, _%_, _≤_}
-use mathlib.Core.List.{List, _++_}
-use lib.Bits.{bitXor}
-use lib.ListN.{length, getD, take, drop}
-use Rattle.model.specs.Lists.{tabulate}
+-- What the transform and its strides require. Assumes nothing.
+use mathlib.Core.Path.{_≡_}
+use mathlib.Core.List.{List}
+use Prim.Native.Nat.{ℕ, _*_, _%_, _≤_}
+use lib.ListN.{length}
+pub use Rattle.blocks.specs.Steps.{AllBits}
 
--- each byte modulo 2
-unfoldable pub lowBits : List ℕ → List ℕ
-lowBits u = tabulate (length u) (λ k. getD u k 0 % 2)
-
--- bytes that are bits
-abbrev pub AllBits : List ℕ → Type 0
-AllBits u = (k : ℕ) → getD u k 0 ≤ 1
-
--- one block at stride h: its second half is added to its first half
-unfoldable pub addHalf : ℕ → List ℕ → List ℕ
-addHalf h u = tabulate h (λ k. bitXor (getD u k 0) (getD u (k + h) 0)) ++ drop h u
-
--- the same for each of the first blocks, as many as count says
-unfoldable pub addHalves : ℕ → ℕ → List ℕ → List ℕ
-addHalves h zero u = u
-addHalves h (suc count) u = addHalf h (take (2 * h) u) ++ addHalves h count (drop (2 * h) u)
+-- the list has as many blocks at stride h as count says, and a stride is a number of words
+abbrev pub Whole : List ℕ → ℕ → ℕ → Type 0
+Whole u count h = (length u ≡ count * (2 * h)) × (2 * h ≤ length u) × (h % 8 ≡ 0)

@@ -1,11 +1,18 @@
 // The transform of N bits in place, which encoder and decoder share.
+use blocks::eight_bytes;
+use blocks::four_bits;
+use blocks::sixteen_bytes;
+use blocks::two_bits;
 use inputs::exponent_of;
+use packed::load_word;
+use packed::store_word;
 ghost use mathlib.Core.Path.{_≡_};
-ghost use Prim.Native.Nat.{_*_, _/_, _^_, _%_, _≤_};
+ghost use Prim.Native.Nat.{_*_, _^_, _%_, _≤_};
 ghost use lib.ListN.{length};
 ghost use Rattle.model.specs.Encoding.{transform};
+ghost use Rattle.blocks.specs.Steps.{lowBits, AllBits, addHalf, eachBlock, addHalves};
 ghost use Rattle.transform.specs.Calls.{transformNumber, transformBytes};
-ghost use Rattle.transform.specs.Steps.{lowBits, AllBits, addHalf, addHalves};
+ghost use Rattle.transform.specs.Steps.{Whole};
 
 // Each byte modulo 2.
 fn reduce(bits: &mut [u8])
@@ -18,21 +25,40 @@ fn reduce(bits: &mut [u8])
     }
 }
 
-// One block at stride h: its second half is added to its first half.
+// The transform of each sixteen bytes. `count` is the number of these blocks.
+fn sixteens(bits: &mut [u8], count: usize)
+    requires { ⌜ length (now bits) ≡ count * 16 ⌝ }
+    ensures { λ _. ⌜ now (bits .exit) ≡ eachBlock (transform 4) 16 count (now (bits .entry)) ⌝ }
+{
+    let mut left = count;
+    let mut from: usize = 0;
+    while 0 < left {
+        let to = from + 16;
+        sixteen_bytes(&mut bits[from..to]);
+        from = to;
+        left -= 1;
+    }
+}
+
+// One block at stride h, a multiple of 8: its second half is added to its first half, a word at a time.
 fn add_half(block: &mut [u8], h: usize)
-    requires { ⌜ length (now block) ≡ 2 * h ⌝ }
+    requires { ⌜ (length (now block) ≡ 2 * h) × (h % 8 ≡ 0) ⌝ }
     ensures { λ _. ⌜ now (block .exit) ≡ addHalf h (now (block .entry)) ⌝ }
 {
+    let mut left = h / 8;
     let mut k: usize = 0;
-    while k < h {
-        block[k] = block[k] ^ block[k + h];
-        k += 1;
+    while 0 < left {
+        let w = load_word(block, k) ^ load_word(block, k + h);
+        let to = k + 8;
+        store_word(&mut block[k..to], w);
+        k = to;
+        left -= 1;
     }
 }
 
 // Every block at stride h. `count` is the number of blocks.
 fn add_halves(bits: &mut [u8], h: usize, count: usize)
-    requires { ⌜ (length (now bits) ≡ count * (2 * h)) × (2 * h ≤ length (now bits)) ⌝ }
+    requires { ⌜ Whole (now bits) count h ⌝ }
     ensures { λ _. ⌜ now (bits .exit) ≡ addHalves h count (now (bits .entry)) ⌝ }
 {
     let size = 2 * h;
@@ -46,47 +72,59 @@ fn add_halves(bits: &mut [u8], h: usize, count: usize)
     }
 }
 
-// Every block at stride 1: the byte after each even place is added to it. The loop goes through all places, so that the compiler can work on many
-// at once: `odd` is 1 where k - 1 is even, and otherwise 0.
-fn add_pairs(bits: &mut [u8])
-    requires { ⌜ length (now bits) % 2 ≡ 0 ⌝ }
-    ensures { λ _. ⌜ now (bits .exit) ≡ addHalves 1 (length (now (bits .entry)) / 2) (now (bits .entry)) ⌝ }
-{
-    let mut k: usize = 1;
-    while k < bits.len() {
-        let odd = (k % 2) as u8;
-        bits[k - 1] = bits[k - 1] ^ (odd * bits[k]);
-        k += 1;
-    }
-}
-
-// The same, with the short strides as constants: then the compiler can work on several bytes at once.
+// The same, with the short strides as constants: then the compiler can work on several words at once.
 fn stride(bits: &mut [u8], h: usize, count: usize)
-    requires { ⌜ (length (now bits) ≡ count * (2 * h)) × (2 * h ≤ length (now bits)) ⌝ }
+    requires { ⌜ Whole (now bits) count h ⌝ }
     ensures { λ _. ⌜ now (bits .exit) ≡ addHalves h count (now (bits .entry)) ⌝ }
 {
     match h {
-        1 => add_pairs(bits),
-        2 => add_halves(bits, 2, count),
-        4 => add_halves(bits, 4, count),
-        8 => add_halves(bits, 8, count),
+        16 => add_halves(bits, 16, count),
+        32 => add_halves(bits, 32, count),
+        64 => add_halves(bits, 64, count),
+        128 => add_halves(bits, 128, count),
         _ => add_halves(bits, h, count),
     }
 }
 
-// The transform of 2 ^ n bits, by the strides 1, 2, 4 and so on.
-pub fn strides(bits: &mut [u8], n: usize)
-    requires { ⌜ (length (now bits) ≡ 2 ^ n) × AllBits (now bits) ⌝ }
+// The transform of 2 ^ n bytes, sixteen or more, each modulo 2: blocks of sixteen, and the strides 16, 32 and so on.
+fn long_strides(bits: &mut [u8], n: usize)
+    requires { ⌜ (4 ≤ n) × (length (now bits) ≡ 2 ^ n) ⌝ }
     ensures { λ _. ⌜ now (bits .exit) ≡ transform n (now (bits .entry)) ⌝ }
 {
-    let mut h: usize = 1;
-    let mut count = bits.len();
-    let mut t: usize = 0;
+    let mut count = bits.len() / 16;
+    sixteens(bits, count);
+    let mut h: usize = 16;
+    let mut t: usize = 4;
     while t < n {
         count /= 2;
         stride(bits, h, count);
         h *= 2;
         t += 1;
+    }
+}
+
+// The transform of 2 ^ n bytes, eight or more, each modulo 2, by words.
+fn word_strides(bits: &mut [u8], n: usize)
+    requires { ⌜ (3 ≤ n) × (length (now bits) ≡ 2 ^ n) ⌝ }
+    ensures { λ _. ⌜ now (bits .exit) ≡ transform n (now (bits .entry)) ⌝ }
+{
+    if n == 3 {
+        eight_bytes(bits);
+        return;
+    }
+    long_strides(bits, n);
+}
+
+// The transform of 2 ^ n bits: two and four by bytes, more by words.
+pub fn strides(bits: &mut [u8], n: usize)
+    requires { ⌜ (length (now bits) ≡ 2 ^ n) × AllBits (now bits) ⌝ }
+    ensures { λ _. ⌜ now (bits .exit) ≡ transform n (now (bits .entry)) ⌝ }
+{
+    match n {
+        0 => {}
+        1 => two_bits(bits),
+        2 => four_bits(bits),
+        _ => word_strides(bits, n),
     }
 }
 
@@ -99,7 +137,11 @@ pub fn transform(bits: &mut [u8]) -> u32
     if n == 0 {
         return 1;
     }
-    reduce(bits);
-    strides(bits, n);
+    if n < 3 {
+        reduce(bits);
+        strides(bits, n);
+        return 0;
+    }
+    word_strides(bits, n);
     0
 }

@@ -1,19 +1,18 @@
 -- The transform by strides: after the strides below 2 ^ t each block of 2 ^ t bits is transformed, and one more stride joins the blocks in pairs. Assumes nothing.
 use mathlib.Core.Path.{_≡_, refl, sym, _∙_, ap, ap₂}
 use mathlib.Core.List.{List, [], _∷_, _++_, append-nil, append-assoc}
-use Prim.Native.Nat.{ℕ, zero, suc, _+_, _-_, _*_, _%_, _^_, _≤_, _<_}
-use native.Mathlib.Nat.{suc-add, add-suc, suc-mul, add-comm, mod-mod, mod-eq-of-lt}
+use Prim.Native.Nat.{ℕ, zero, suc, _+_, _*_, _%_, _^_, _≤_, _<_}
+use native.Mathlib.Nat.{suc-add, add-suc, one-mul, mul-one, mul-add, add-mul, add-comm, mod-mod, mod-eq-of-lt}
 use native.Mathlib.Decide.{decLt}
 use native.Mathlib.Omega.{arith}
 use lib.Bits.{bitXor, xor-add-and, xor-lt, bitAnd}
-use lib.ListN.{length, getD, take, drop, take-append-drop, length-append, length-drop, List·getD-append, List·getD-eq-default}
-use lib.Seq.{getD-take, getD-drop, getD-append-add, take-at, drop-at, drop-drop, length-take-le}
-use borrow.Rule.Slice.PartMut.{midOf, putMid}
+use lib.ListN.{length, getD, take, drop, length-append, List·getD-append, List·getD-eq-default}
+use lib.Seq.{getD-take, getD-drop, getD-append-add, take-at, drop-at, drop-drop}
 use Rattle.model.specs.Lists.{tabulate}
 use Rattle.model.specs.Encoding.{_⊕_, transform}
 use Rattle.model.proofs.Lists.{double, length-tabulate, getD-tabulate, tabulate-ext}
 use Rattle.model.proofs.Transform.{transform-zero, transform-halves, length-transform, transform-bit, upper, lower}
-use Rattle.transform.specs.Steps.{lowBits, AllBits, addHalf, addHalves}
+use Rattle.blocks.specs.Steps.{lowBits, AllBits, addHalf, eachBlock, addHalves}
 
 xor-bits : (a b : ℕ) → a ≤ 1 → b ≤ 1 → bitXor a b ≡ a ⊕ b
 xor-bits a b p q = go (bitXor a b) (bitAnd a b) (xor-add-and a b) (xor-lt 1 a b (omega arith) (omega arith))
@@ -32,7 +31,7 @@ agree (suc t) u v h =
     transform-halves t u ∙ ap₂ (λ (a b : List ℕ). tabulate (2 ^ t) (λ k. getD a k 0 ⊕ getD b k 0) ++ b) l r ∙ sym (transform-halves t v)
 
 -- one block
-add-half-step : (t : ℕ) (u : List ℕ) → addHalf (2 ^ t) (transform t u ++ transform t (drop (2 ^ t) u)) ≡ transform (suc t) u
+pub add-half-step : (t : ℕ) (u : List ℕ) → addHalf (2 ^ t) (transform t u ++ transform t (drop (2 ^ t) u)) ≡ transform (suc t) u
 unfolding addHalf
 add-half-step t u =
     ap₂ (λ (a b : List ℕ). a ++ b)
@@ -63,7 +62,7 @@ blocks t zero u = []
 blocks t (suc m) u = transform t u ++ blocks t m (drop (2 ^ t) u)
 
 pub add-halves-step : (t m : ℕ) (u : List ℕ) → addHalves (2 ^ t) m (blocks t (m + m) u) ≡ blocks (suc t) m u
-unfolding addHalves blocks
+unfolding eachBlock blocks
 add-halves-step t zero u = refl
 add-halves-step t (suc m) u =
     rw (suc-add m (suc m), add-suc m m)
@@ -111,6 +110,22 @@ pub blocks-end : (n : ℕ) (u : List ℕ) → blocks n 1 u ≡ transform n u
 unfolding blocks
 blocks-end n u = append-nil (transform n u)
 
+-- the strides 1, 2, 4 and so on, t of them, in each of the first blocks of 2 ^ t
+unfoldable pub stridesBelow : ℕ → ℕ → List ℕ → List ℕ
+stridesBelow zero count u = u
+stridesBelow (suc t) count u = addHalves (2 ^ t) count (stridesBelow t (count + count) u)
+
+-- they give the blocks
+pub strides-blocks : (t m : ℕ) (u : List ℕ) → length u ≡ m * 2 ^ t → AllBits u → stridesBelow t m u ≡ blocks t m u
+unfolding stridesBelow
+strides-blocks zero m u e b = blocks-start u b ∙ ap (λ (x : ℕ). blocks 0 x u) (e ∙ mul-one m)
+strides-blocks (suc t) m u e b =
+    ap (addHalves (2 ^ t) m) (strides-blocks t (m + m) u (e ∙ ap (λ (x : ℕ). m * x) (double t) ∙ mul-add m (2 ^ t) (2 ^ t) ∙ sym (add-mul m m (2 ^ t))) b)
+    ∙ add-halves-step t m u
+
+pub strides-all : (n : ℕ) (u : List ℕ) → length u ≡ 2 ^ n → AllBits u → stridesBelow n 1 u ≡ transform n u
+strides-all n u e b = strides-blocks n 1 u (e ∙ sym (one-mul (2 ^ n))) b ∙ blocks-end n u
+
 -- ---- bytes modulo 2
 module _ (u : List ℕ) where
   low-at : (k : ℕ) → k < length u → getD (lowBits u) k 0 ≡ getD u k 0 % 2
@@ -130,48 +145,3 @@ module _ (u : List ℕ) where
 
   pub transform-low : (n : ℕ) → length u ≡ 2 ^ n → transform n (lowBits u) ≡ transform n u
   transform-low n e = agree n (lowBits u) u (λ k h. ap (λ (x : ℕ). x % 2) (low-at k (rw e h)) ∙ mod-mod (getD u k 0) 2)
-
--- ---- a turn of the loop over the blocks: the bits before `from` are done, and `left` blocks from there on are not
-less : (l : ℕ) → l ≡ suc l - 1
-less l = omega arith
-
-pub one-more : (left from size n : ℕ) → 0 < left → from + left * size ≡ n → (from + size ≤ n) × (from + size + (left - 1) * size ≡ n)
-one-more zero from size n z e = let x : ⊥ = omega arith in absurd x
-one-more (suc l) from size n z e = go (suc l - 1) (less l) (suc-mul l size)
-  where
-    go : (m : ℕ) → l ≡ m → suc l * size ≡ l * size + size → (from + size ≤ n) × (from + size + m * size ≡ n)
-    go m p q = let r : m * size ≡ l * size = ap (λ (x : ℕ). x * size) (sym p) in (omega arith, omega arith)
-
-pub add-halves-more : (h left from k : ℕ) (u v : List ℕ) → 0 < left → k ≡ 2 * h → from + 2 * h ≤ length u → length v ≡ length (midOf from k u) → v ≡ addHalf h (midOf from k u)
-    → take from u ++ addHalves h left (drop from u)
-    ≡ take (from + 2 * h) (putMid from k u v) ++ addHalves h (left - 1) (drop (from + 2 * h) (putMid from k u v))
-unfolding addHalves
-add-halves-more h zero from k u v z e f n p = let x : ⊥ = omega arith in absurd x
-add-halves-more h (suc l) from k u v z e f n p =
-    ap (λ (m : ℕ). P ++ (addHalf h (take m (drop from u)) ++ addHalves h l (drop m (drop from u)))) (sym e)
-    ∙ ap (λ (w : List ℕ). P ++ (w ++ addHalves h l R)) (sym p)
-    ∙ sym (append-assoc P v (addHalves h l R))
-    ∙ ap₂ (λ (a b : List ℕ). a ++ addHalves h l b) (sym front) (sym back)
-    ∙ ap (λ (m : ℕ). take (from + 2 * h) (putMid from k u v) ++ addHalves h m (drop (from + 2 * h) (putMid from k u v))) (less l)
-  where
-    P : List ℕ
-    P = take from u
-
-    R : List ℕ
-    R = drop k (drop from u)
-
-    both : length (P ++ v) ≡ from + 2 * h
-    both =
-        length-append P v
-        ∙ ap₂ _+_ (length-take-le from u (omega arith)) (n ∙ length-take-le k (drop from u) (omega (arith, length-drop from u)) ∙ e)
-
-    front : take (from + 2 * h) (putMid from k u v) ≡ P ++ v
-    front = ap (take (from + 2 * h)) (sym (append-assoc P v R)) ∙ take-at (P ++ v) R (from + 2 * h) both
-
-    back : drop (from + 2 * h) (putMid from k u v) ≡ R
-    back = ap (drop (from + 2 * h)) (sym (append-assoc P v R)) ∙ drop-at (P ++ v) R (from + 2 * h) both
-
-pub add-halves-end : (h left from : ℕ) (u : List ℕ) → left ≤ 0 → take from u ++ addHalves h left (drop from u) ≡ u
-unfolding addHalves
-add-halves-end h zero from u z = take-append-drop from u
-add-halves-end h (suc l) from u z = let x : ⊥ = omega arith in absurd x
