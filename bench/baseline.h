@@ -12,6 +12,7 @@ typedef uint64_t decode_call(const uint8_t *mask, size_t mask_length, const uint
                              size_t work_length);
 typedef uint64_t encode_call(const uint8_t *mask, size_t mask_length, const uint8_t *payload, size_t payload_length,
                              uint8_t *word, size_t word_length);
+typedef uint64_t transform_call(uint8_t *bits, size_t bits_length);
 typedef uint64_t plan_call(const uint8_t *mask, size_t mask_length, uint8_t *plan, size_t plan_length,
                            uint32_t *counts);
 typedef uint64_t samples_call(const float *samples, size_t samples_length, const uint8_t *marks, size_t marks_length,
@@ -19,6 +20,7 @@ typedef uint64_t samples_call(const float *samples, size_t samples_length, const
 
 decode_call plain_decode, sse2_decode;
 encode_call plain_encode;
+transform_call plain_transform;
 plan_call plain_plan;
 samples_call plain_samples;
 

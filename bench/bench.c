@@ -20,17 +20,18 @@ typedef struct {
     const char *name;
     decode_call *decode;
     encode_call *encode;
+    transform_call *transform;
     plan_call *plan;
     samples_call *samples;
 } library;
 
 static const library libraries[LIBRARIES] = {
-    {"proved", ruznavo_decode, ruznavo_encode, ruznavo_plan, ruznavo_samples},
-    {"plain C", plain_decode, plain_encode, plain_plan, plain_samples},
-    {"SSE2 C", sse2_decode, NULL, NULL, NULL},
+    {"proved", ruznavo_decode, ruznavo_encode, ruznavo_transform, ruznavo_plan, ruznavo_samples},
+    {"plain C", plain_decode, plain_encode, plain_transform, plain_plan, plain_samples},
+    {"SSE2 C", sse2_decode, NULL, NULL, NULL, NULL},
 };
 
-typedef enum { DECODE, ENCODE, PLAN, SAMPLES } routine;
+typedef enum { DECODE, ENCODE, PLAN, SAMPLES, TRANSFORM } routine;
 
 typedef struct {
     routine what;
@@ -39,7 +40,7 @@ typedef struct {
 } test_case;
 
 // What the calls read.
-static uint8_t mask[MAX_N], plan[2 * MAX_N], marks[MAX_N], payloads[FRAMES][MAX_N];
+static uint8_t mask[MAX_N], plan[2 * MAX_N], marks[MAX_N], payloads[FRAMES][MAX_N], encoded[FRAMES][MAX_N];
 static float samples[FRAMES][MAX_N], variance;
 static int16_t llrs[FRAMES][MAX_N];
 
@@ -70,14 +71,13 @@ static void make_plan(const test_case *c) {
 // The same frames for each case of a code: random payloads at an Eb/N0 of 2 dB.
 static void prepare(const test_case *c) {
     struct random r = random_case(1, 0);
-    uint8_t word[MAX_N];
     make_mask(mask, c->n, c->k);
     make_plan(c);
     variance = (float)noise_variance(c->n, c->k, 2);
     for (int f = 0; f < FRAMES; f++) {
         for (size_t i = 0; i < c->k; i++) payloads[f][i] = random_bits(&r) >> 63;
-        if (plain_encode(mask, c->n, payloads[f], c->k, word, c->n)) fail(c, "no word");
-        transmit(&r, word, c->n, variance, samples[f]);
+        if (plain_encode(mask, c->n, payloads[f], c->k, encoded[f], c->n)) fail(c, "no word");
+        transmit(&r, encoded[f], c->n, variance, samples[f]);
         if (plain_samples(samples[f], c->n, marks, c->n, variance, llrs[f], c->n)) fail(c, "no LLRs");
     }
 }
@@ -94,6 +94,7 @@ static void call(const test_case *c, int which, int f) {
                                 o->work, RUZNAVO_MAX_WORK_WORDS);
         break;
     case ENCODE: o->answer = lib->encode(mask, n, payloads[f], c->k, o->word, n); break;
+    case TRANSFORM: o->answer = lib->transform(o->word, n); break;
     case PLAN: o->answer = lib->plan(mask, n, o->plan, 2 * n, o->counts); break;
     case SAMPLES: o->answer = lib->samples(samples[f], n, marks, n, variance, o->llrs, n); break;
     }
@@ -105,6 +106,7 @@ static void compare(const test_case *c) {
         for (int which = 0; which < LIBRARIES; which++) {
             if (!has_routine(c, which)) continue;
             memset(&written[which], 85, sizeof written[which]);
+            if (c->what == TRANSFORM) memcpy(written[which].word, encoded[f], c->n);
             call(c, which, f);
             if (written[which].answer & 255) fail(c, "turned down");
             if (memcmp(&written[which], &written[PROVED], sizeof written[which])) fail(c, "the libraries differ");
@@ -117,9 +119,9 @@ static double now(void) {
     return (double)t.tv_sec * 1e9 + (double)t.tv_nsec;
 }
 
-// Nanoseconds of one call, from several in a row where the frame is short.
+// Nanoseconds of one call, from several in a row where a call is short.
 static double time_call(const test_case *c, int which, int f) {
-    int repeats = (int)(1 + 1024 / c->n);
+    int repeats = (int)((c->what == DECODE ? 1 : 8) * (1 + 1024 / c->n));
     double start = now();
     for (int i = 0; i < repeats; i++) call(c, which, f);
     return (now() - start) / repeats;
@@ -159,7 +161,7 @@ static double next_count(void) {
 
 static void print_numbers(const test_case *c, const double *values) {
     for (int which = 0; which < LIBRARIES; which++)
-        if (has_routine(c, which) && values[which] > 0) printf(" %9.0f", values[which]);
+        if (has_routine(c, which) && values[which] > 0) printf(" %9.*f", values[which] < 100, values[which]);
         else printf(" %9s", "-");
 }
 
@@ -220,6 +222,20 @@ static void other_table(void) {
     }
 }
 
+static void word_table(void) {
+    static const char *const names[] = {"transform", "encoder"};
+    heading("Transform and encoder by N, rate 1/2", "routine    N");
+    if (!counting) puts("   proved/plain");
+    for (int i = 0; i < 2 * MAX_STAGE; i++) {
+        size_t n = (size_t)2 << i % MAX_STAGE;
+        test_case c = {i < MAX_STAGE ? TRANSFORM : ENCODE, n, n / 2, 0, 0};
+        double mean[LIBRARIES];
+        if (!counting) printf("%-10s %4zu%11s", names[i / MAX_STAGE], n, "");
+        run_case(&c, mean);
+        if (!counting) printf("   %12.2f\n", mean[PROVED] / mean[PLAIN]), fflush(stdout);
+    }
+}
+
 static void growth_table(void) {
     heading("Decoder by N, rate 1/2, 1 sweep, planner's plan", "N");
     if (!counting) puts("   ns / (N log2 N): proved, plain, SSE2");
@@ -243,6 +259,7 @@ int main(int count, char **words) {
             return fprintf(stderr, "bench: %s misses a test\n", libraries[which].name), 1;
     decode_table();
     other_table();
+    word_table();
     growth_table();
     return 0;
 }

@@ -1,4 +1,4 @@
-// Encoder, planner, front end and decoder in plain C, as one would write them without intrinsics.
+// Encoder, transform, planner, front end and decoder in plain C, as one would write them without intrinsics.
 #include "baseline.h"
 #include "kinds.h"
 #include "slips.h"
@@ -58,6 +58,13 @@ uint64_t plain_encode(const uint8_t *mask, size_t n, const uint8_t *payload, siz
     size_t k = 0;
     for (size_t i = 0; i < n; i++) word[i] = mask[i] ? 0 : payload[k++];
     transform(word, n);
+    return 0;
+}
+
+uint64_t plain_transform(uint8_t *bits, size_t n) {
+    if (!exponent_of(n)) return 1;
+    for (size_t i = 0; i < n; i++) bits[i] &= 1;
+    transform(bits, n);
     return 0;
 }
 

@@ -71,7 +71,7 @@ enum {
 /* Refusal numbers. The line program alone has number 13. */
 enum {
     RUZNAVO_OK = 0,
-    RUZNAVO_BAD_LENGTH = 1,    /* mask length, or number of samples, is not a power of two from 2 to 1024 */
+    RUZNAVO_BAD_LENGTH = 1,    /* mask length, or number of samples or bits, is not a power of two from 2 to 1024 */
     RUZNAVO_BAD_MASK = 2,      /* a mask byte above 1 */
     RUZNAVO_BAD_COUNT = 3,     /* LLRs or position marks are not N, or the payload is not K */
     RUZNAVO_BAD_SWEEPS = 4,    /* sweeps outside 1 to RUZNAVO_MAX_SWEEPS */
@@ -111,6 +111,14 @@ uint64_t ruznavo_samples(const float *samples, size_t samples_length, const uint
  */
 uint64_t ruznavo_encode(const uint8_t *mask, size_t mask_length, const uint8_t *payload, size_t payload_length,
                         uint8_t *word, size_t word_length);
+
+/*
+ * The transform in place: the row of bits is multiplied by the polar matrix, in natural order. A second transform gives
+ * the bits again, so the transform of a hard word is the decoded row of frozen bits and payload.
+ *   bits     exactly N bytes, each taken modulo 2; all are written
+ * Answers the number: 0 or 1.
+ */
+uint64_t ruznavo_transform(uint8_t *bits, size_t bits_length);
 
 /*
  * Makes the plan with the fewest cycles and cuts. A plan depends on the mask only: make it once for each mask.

@@ -26,6 +26,7 @@ static uint64_t answer;
 static void none(void) { answer = 0; }
 static void call_samples(void) { answer = ruznavo_samples(samples, N, marks, N, 1.0f, llrs, N); }
 static void call_encode(void) { answer = ruznavo_encode(mask, N, payload, N / 2, bits, N); }
+static void call_transform(void) { answer = ruznavo_transform(bits, N); }
 static void call_plan(void) { answer = ruznavo_plan(mask, N, plan, 2 * N, counts); }
 static void call_check_plan(void) { answer = ruznavo_check_plan(mask, N, plan, 2 * N); }
 static void call_decode(void) {
@@ -59,7 +60,8 @@ int main(void) {
         mask[i] = (uint8_t)(i % 2 == 0 ? i / 2 % 2 : 1 - i / 2 % 2);
         samples[i] = (float)random_gauss(&r);
     }
-    int refused = measure("samples", call_samples) + measure("encode", call_encode) + measure("plan", call_plan);
+    int refused = measure("samples", call_samples) + measure("encode", call_encode) +
+                  measure("transform", call_transform) + measure("plan", call_plan);
     leaf_plan(plan, N);
     refused += measure("check_plan", call_check_plan) + measure("decode", call_decode);
     return refused != 0;

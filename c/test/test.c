@@ -23,13 +23,14 @@
 /* The longest input that a damaged call has. */
 enum { LONGEST = 4 * REF_MAX_N };
 
-enum call { SAMPLES, ENCODE, PLAN, CHECK_PLAN, DECODE, CALLS };
-static const char *const call_names[CALLS] = {"samples", "encode", "plan", "check_plan", "decode"};
+enum call { SAMPLES, ENCODE, TRANSFORM, PLAN, CHECK_PLAN, DECODE, CALLS };
+static const char *const call_names[CALLS] = {"samples", "encode", "transform", "plan", "check_plan", "decode"};
 
 /* The numbers that each call can answer, as bits. */
 static const unsigned answers[CALLS] = {
     1u << 0 | 1u << 1 | 1u << 3 | 1u << 8 | 1u << 9 | 1u << 11,
     1u << 0 | 1u << 1 | 1u << 2 | 1u << 3 | 1u << 10 | 1u << 11,
+    1u << 0 | 1u << 1,
     1u << 0 | 1u << 1 | 1u << 2 | 1u << 11,
     1u << 0 | 1u << 1 | 1u << 2 | 1u << 5 | 1u << 6,
     0xFFu | 1u << 11 | 1u << 12,
@@ -238,6 +239,23 @@ static void encode_case(struct random *r) {
     int number = ref_encode(twin(MASK), c.mask_length, twin(PAYLOAD), payload_length, twin(WORD), room);
     compare(ENCODE, answer, number, 0, 0, used, 3);
     if (number == 0) stage_seen[ENCODE][ref_exponent(c.mask_length)]++;
+}
+
+/* ---- transform */
+
+static void transform_case(struct random *r) {
+    size_t N = (size_t)1 << random_from(r, 1, REF_MAX_STAGE), length = damages(r) ? other_length(r, N) : N;
+    static uint8_t bits[LONGEST], reduced[LONGEST];
+    int any = random_chance(r, 0.5); /* bytes stand for bits by their values modulo 2 */
+    for (size_t i = 0; i < LONGEST; i++) bits[i] = (uint8_t)random_below(r, any ? 256 : 2);
+    place(r, WORD, length, 1, bits);
+    static const enum slot used[] = {WORD};
+    uint64_t answer = ruznavo_transform(buffer(WORD), length);
+    int number = ref_exponent(length) ? 0 : 1;
+    for (size_t i = 0; i < LONGEST; i++) reduced[i] = bits[i] % 2;
+    if (number == 0) ref_transform(reduced, twin(WORD), length);
+    compare(TRANSFORM, answer, number, 0, 0, used, 1);
+    if (number == 0) stage_seen[TRANSFORM][ref_exponent(length)]++;
 }
 
 /* ---- planner and check of a plan */
@@ -482,8 +500,8 @@ static void all_tried(void) {
 }
 
 int main(int argc, char **argv) {
-    static void (*const run[CALLS])(struct random *) = {samples_case, encode_case, plan_case, check_plan_case,
-                                                        decode_case};
+    static void (*const run[CALLS])(struct random *) = {samples_case, encode_case,     transform_case,
+                                                        plan_case,    check_plan_case, decode_case};
     uint64_t cases = argc > 2 ? strtoull(argv[2], NULL, 10) : 50000, first = argc > 3 ? strtoull(argv[3], NULL, 10) : 0;
     if (argc > 1) seed = strtoull(argv[1], NULL, 10);
     signal(SIGSEGV, fault);

@@ -6,9 +6,11 @@ use planner::plan_mask;
 use plans::check_plan;
 use samples::Channel;
 use samples::samples_to_llrs;
+use transform::transform;
 ghost use mathlib.Core.Path.{_≡_};
 ghost use lib.ListN.{length};
 ghost use Rattle.model.specs.Refusals.{samplesNumber, samplesLlrs, encodeNumber, encodeWord, planBytes};
+ghost use Rattle.transform.specs.Calls.{transformNumber, transformBytes};
 ghost use Rattle.decode.specs.Calls.{lent, given};
 ghost use Rattle.ruznavo.specs.Answers.{CheckAnswer, PlanAnswer, hostCounts, DecodeAnswer};
 
@@ -34,6 +36,15 @@ pub extern "C" fn ruznavo_encode(mask: &[u8], payload: &[u8], word: &mut [u8]) -
     ensures { λ _. ⌜ now (word .exit) ≡ encodeWord (now (mask .entry)) (now (payload .entry)) (now (word .entry)) ⌝ }
 {
     encode(mask, payload, word) as u64
+}
+
+// The transform in place. The answer is the number.
+#[no_mangle]
+pub extern "C" fn ruznavo_transform(bits: &mut [u8]) -> u64
+    ensures { λ r. ⌜ r ≡ transformNumber (now (bits .entry)) ⌝ }
+    ensures { λ _. ⌜ now (bits .exit) ≡ transformBytes (now (bits .entry)) ⌝ }
+{
+    transform(bits) as u64
 }
 
 // A check of a plan. The answer is number + 256 × cycles of one sweep.
