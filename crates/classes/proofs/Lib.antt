@@ -1,3 +1,4 @@
+pub mod Periods
 pub mod Strided
 pub mod Sums
 pub mod LeastSizes

@@ -1,8 +1,15 @@
 -- Sums over a class of places, as the loops gather them. Assumes nothing.
 use mathlib.Core.List.{List, [], _∷_}
-use Prim.Native.Nat.{ℕ, zero, suc, _+_, _-_, _%_}
+use mathlib.Core.Path.{_≡_}
+use Prim.Native.Nat.{ℕ, zero, suc, _+_, _-_, _%_, _≤_, _<_}
 use lib.IntN.{ℤ, pos, natAbs, _+ℤ_}
 use Rattle.classes.specs.declared.Totals.{Totals}
+
+-- a period: 1, 2 or 4
+pub record Period (p : ℕ) : Type 0 where
+  pub some : 0 < p
+  pub most : p ≤ 4
+  pub divides : 4 % p ≡ 0
 
 -- the elements at c, c + p, c + 2 p, ..: the class c of the places modulo p
 unfoldable pub strided : {A : Type 0} → ℕ → ℕ → List A → List A

@@ -14,17 +14,19 @@ ghost use lib.Signed.{mag};
 ghost use lib.ListN.{length, drop};
 ghost use Rattle.model.specs.Soft.{mark, negative};
 ghost use Rattle.words.specs.Words.{Word, word, write, Words, Holds};
-ghost use Rattle.classes.specs.Sums.{strided, sizes, sumOf, totalsOf};
+ghost use Rattle.classes.specs.Sums.{Period, strided, sizes, sumOf, totalsOf};
 ghost use Rattle.classes.specs.LeastSizes.{least, next, parity, gatherClass, gatherAll, byTurns};
 ghost use Rattle.classes.specs.Folds.{fourList, keepSign, lowAt, highAt};
 
-fn min_size(a: u32, b: u32) -> u32
+// The smaller of two sizes.
+pub fn min_size(a: u32, b: u32) -> u32
     ensures { λ r. ⌜ r ≡ min a b ⌝ }
 {
     if a < b { a } else { b }
 }
 
-fn max_size(a: u32, b: u32) -> u32
+// The larger of two sizes.
+pub fn max_size(a: u32, b: u32) -> u32
     ensures { λ r. ⌜ r ≡ max a b ⌝ }
 {
     if a < b { b } else { a }
@@ -45,7 +47,7 @@ fn class_sum(l: &[i32], p: usize, c: usize) -> i32
     t
 }
 
-// The sums that the places 0, 1, 2 and 3 modulo 4 use: each the sum over its class.
+// What the places 0, 1, 2 and 3 modulo 4 subtract their values from: the sum over the place's class, or more.
 pub struct Totals {
     pub at0: i32,
     pub at1: i32,
@@ -55,7 +57,7 @@ pub struct Totals {
 
 // The sums over all classes of period p.
 pub fn class_totals(l: &[i32], p: usize) -> Totals
-    requires { ⌜ (0 < p) × (p ≤ 2) ⌝ }
+    requires { ⌜ Period p ⌝ }
     requires { ⌜ sizes (now l) ≤ mark ⌝ }
     ensures { λ r. ⌜ r ≡ totalsOf p (now (l .entry)) ⌝ }
 {
@@ -68,13 +70,25 @@ pub fn class_totals(l: &[i32], p: usize) -> Totals
             at3: t,
         };
     }
-    let a = class_sum(l, 2, 0);
-    let b = class_sum(l, 2, 1);
+    if p == 2 {
+        let a = class_sum(l, 2, 0);
+        let b = class_sum(l, 2, 1);
+        return Totals {
+            at0: a,
+            at1: b,
+            at2: a,
+            at3: b,
+        };
+    }
+    let a = class_sum(l, 4, 0);
+    let b = class_sum(l, 4, 1);
+    let c = class_sum(l, 4, 2);
+    let d = class_sum(l, 4, 3);
     Totals {
         at0: a,
         at1: b,
-        at2: a,
-        at3: b,
+        at2: c,
+        at3: d,
     }
 }
 
@@ -110,7 +124,7 @@ fn gather(l: &[i32], p: usize, c: usize) -> Gathered
     }
 }
 
-// What the places 0, 1, 2 and 3 modulo 4 use: each what is gathered of its class.
+// What the places 0, 1, 2 and 3 modulo 4 leave their values out of: what is gathered of the place's class, or of more.
 pub struct ByPlace {
     pub at0: Gathered,
     pub at1: Gathered,
@@ -130,7 +144,7 @@ fn by_turns(a: Gathered, b: Gathered) -> ByPlace
     }
 }
 
-// What is gathered of all classes of period p.
+// What is gathered of all classes of period 1 or 2.
 pub fn gather_all(l: &[i32], p: usize) -> ByPlace
     requires { ⌜ (0 < p) × (p ≤ 2) ⌝ }
     requires { ⌜ ((k : ℕ) → Word (word (now l) k)) ⌝ }

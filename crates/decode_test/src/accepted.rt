@@ -56,9 +56,9 @@ fn accepted_lengths(stage: usize, sweeps: usize, k: usize, extra: u32) -> Length
     }
 }
 
-pub fn same_counts(a: [u32; 6], b: [u32; 6]) -> bool {
+pub fn same_counts(a: [u32; 8], b: [u32; 8]) -> bool {
     let mut i = 0;
-    while i < 6 {
+    while i < 8 {
         if a[i] != b[i] {
             return false;
         }

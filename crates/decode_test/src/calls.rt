@@ -96,7 +96,7 @@ pub fn decode_front(
 // What a planner's call answered and left.
 pub struct Plan {
     pub number: u32,
-    pub counts: [u32; 6],
+    pub counts: [u32; 8],
     pub plan: Bytes,
 }
 

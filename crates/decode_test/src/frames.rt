@@ -125,7 +125,7 @@ fn line_right(out: Outputs) -> bool {
 fn decode_frame(i: usize, f: Frame) -> bool {
     let c = Case {
         stage: f.stage,
-        mask: 16,
+        mask: 18,
         detail: f.mask,
         plan: 0,
         llrs: 9,

@@ -47,9 +47,9 @@ const LENGTHS: usize = 10;
 fn drawn_case(stage: usize, i: usize, llrs: usize, seed: u32) -> Case {
     Case {
         stage,
-        mask: i % 16,
+        mask: i % 18,
         detail: (seed / 16 % 11) as usize,
-        plan: i / 16 % 4,
+        plan: i / 18 % 4,
         llrs,
         sweeps: 1 + (seed % 8) as usize,
         seed,
@@ -60,7 +60,7 @@ fn drawn_case(stage: usize, i: usize, llrs: usize, seed: u32) -> Case {
 fn mask_case(stage: usize, i: usize, seed: u32) -> Case {
     Case {
         stage,
-        mask: 16,
+        mask: 18,
         detail: i % 256,
         plan: i / 256 % 4,
         llrs: i / 1024 % 8,
@@ -73,9 +73,9 @@ fn mask_case(stage: usize, i: usize, seed: u32) -> Case {
 fn kind_case(stage: usize, i: usize, seed: u32) -> Case {
     Case {
         stage,
-        mask: 10 + i % 6,
-        detail: i / 6 % 11,
-        plan: i / 66 % 4,
+        mask: 10 + i % 8,
+        detail: i / 8 % 11,
+        plan: i / 88 % 4,
         llrs: (seed / 16 % 8) as usize,
         sweeps: 1 + (seed % 8) as usize,
         seed,
@@ -237,7 +237,7 @@ fn main() {
     report_group(FRAMES, 1, 8);
     report_group(EVERY_MASK, 3, 8192);
     report_drawn();
-    report_group(KINDS, 10, 528);
+    report_group(KINDS, 10, 704);
     report_group(SIGNS, 10, 512);
     report_group(CHANGED_PLANS, 10, 512);
     report_group(TWO_FAULTS, 10, 1452);

@@ -272,7 +272,7 @@ fn planner_refused(mask: Bytes, n: usize, room: usize, faults: usize, seed: u32)
     if faults == 0 {
         return true;
     }
-    both(same_counts(counts, [0; 6]), same_bytes(plan, before))
+    both(same_counts(counts, [0; 8]), same_bytes(plan, before))
 }
 
 // A planner's call with faults 0, 1 and 7.

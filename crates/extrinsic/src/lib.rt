@@ -14,7 +14,7 @@ ghost use Rattle.words.specs.Words.{Word, word, write, Words};
 ghost use Rattle.extrinsic.specs.Values.{Sizes, leaveOut, totalAt, gatheredAt};
 
 // -m if neg, else m
-fn with_sign(neg: bool, m: i32) -> i32
+pub fn with_sign(neg: bool, m: i32) -> i32
     requires { ⌜ Word m ⌝ }
     ensures { λ r. ⌜ r ≡ cond neg (negℤ m) m ⌝ }
 {
@@ -27,7 +27,7 @@ fn pick_size(b: bool, x: u32, y: u32) -> u32
     if b { x } else { y }
 }
 
-// The value of SPC at a place that holds x.
+// The value at a place that holds x, by the box over all that was gathered but x: that of SPC, and of types III and IV.
 fn leave_out(x: i32, g: Gathered) -> i32
     requires { ⌜ Word x ⌝ }
     requires { ⌜ Sizes g ⌝ }
@@ -62,7 +62,7 @@ pub fn subtract(w: &mut [i32], m: usize, x: usize, s: usize, t: Totals)
     }
 }
 
-// w[m + k] = the value of SPC at w[x + k], from what was gathered for place k; four places at a time.
+// w[m + k] = box over what was gathered for place k without w[x + k]; four places at a time.
 pub fn spread(w: &mut [i32], m: usize, x: usize, s: usize, g: ByPlace)
     requires { ⌜ (m + s ≤ x) × (x + s ≤ length (now w)) × (s % 4 ≡ 0) ⌝ }
     requires { ⌜ Words (now w) x s ⌝ }

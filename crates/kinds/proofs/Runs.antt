@@ -12,7 +12,7 @@ use lib.ListN.{replicate, length, take, drop, getD, length-drop, length-replicat
 use lib.Seq.{drop-cons, length-take-le, getD-append-add}
 use Rattle.model.specs.Lists.{same}
 use Rattle.model.specs.Encoding.{isUnfrozen, frozenToZero}
-use Rattle.model.specs.Kinds.{Kind, rate-0, rate-1, REP, SPC, type-I, type-III, order, leastSize, pattern, onlyFirst, fits, firstOf, kindOf, isSome, isKind, row}
+use Rattle.model.specs.Kinds.{Kind, rate-0, rate-1, REP, SPC, type-I, type-III, type-II, type-IV, order, leastSize, pattern, onlyFirst, fits, firstOf, kindOf, isSome, isKind, row}
 use Rattle.model.proofs.Lists.{eqb-same, eqb-apart, T-true, true-T, absurd-bool, and-T, cond-both, and-assoc, and-true}
 use Rattle.model.proofs.Shortcuts.{kind-facts}
 use Rattle.model.proofs.FrozenPositions.{toZero-at, toZero-length, toZero-l, toZero-r, toZero-unfrozen, kinds-alike}
@@ -63,6 +63,8 @@ pattern-run REP m h = let q : m - (m - 1) ≡ 1 = omega arith in (omega arith, r
 pattern-run SPC m h = (omega arith, refl)
 pattern-run type-I m h = let q : m - (m - 2) ≡ 2 = omega arith in (omega arith, rw q)
 pattern-run type-III m h = (omega arith, refl)
+pattern-run type-II m h = let q : m - (m - 3) ≡ 3 = omega arith in (omega arith, rw q)
+pattern-run type-IV m h = (omega arith, refl)
 
 -- the least size at which no upper kind has the same pattern
 abbrev ownSize : Kind → ℕ
@@ -72,6 +74,8 @@ ownSize REP = 2
 ownSize SPC = 3
 ownSize type-I = 4
 ownSize type-III = 5
+ownSize type-II = 8
+ownSize type-IV = 8
 
 -- a node is not of two kinds
 other-kind : (j k : Kind) {o : Option Kind} → o ≡ some j → o ≡ some k → isKind j (some k) ≡ false → ⊥
@@ -86,6 +90,8 @@ own-size REP m h e = h
 own-size SPC m h e = let n : m ≡ 2 → ⊥ = λ q. other-kind REP SPC (rw q) e refl in omega arith
 own-size type-I m h e = h
 own-size type-III m h e = let n : m ≡ 4 → ⊥ = λ q. other-kind type-I type-III (rw q) e refl in omega arith
+own-size type-II m h e = h
+own-size type-IV m h e = h
 
 -- ---- a byte of a run
 module _ (mask : List ℕ) (f : ℕ) (h : f ≤ length mask) (e : mask ≡ onlyFirst f (length mask)) (i : ℕ) where
@@ -111,13 +117,15 @@ module _ (mask : List ℕ) (f : ℕ) (h : f ≤ length mask) (e : mask ≡ onlyF
       q = omega (arith, length-replicate {A = ℕ} f 1)
 
 -- ---- a mask of some kind is told by the bytes at its ends
--- the kind by the bytes next to the ends, where the first position is frozen and the last is not
-abbrev mixed : List ℕ → Kind
-mixed mask = cond (eqb (getD mask (length mask - 2) 0) 1) REP (cond (eqb (getD mask 1 0) 1) (cond (eqb (getD mask (length mask - 3) 0) 1) type-I type-III) SPC)
+-- the kind by the bytes next to the ends, in a mask of l positions, where the first one is frozen and the last is not
+abbrev mixed : List ℕ → ℕ → Kind
+mixed mask l =
+    cond (eqb (getD mask (l - 2) 0) 1) REP (cond (eqb (getD mask 1 0) 1)
+    (cond (eqb (getD mask (l - 3) 0) 1) type-I (cond (leb 8 l) (cond (eqb (getD mask 2 0) 1) (cond (eqb (getD mask (l - 4) 0) 1) type-II type-IV) type-III) type-III)) SPC)
 
 -- the kind by the bytes at both ends
 abbrev pub byEnds : List ℕ → Kind
-byEnds mask = cond (eqb (getD mask (length mask - 1) 0) 1) rate-0 (cond (eqb (getD mask 0 0) 1) (mixed mask) rate-1)
+byEnds mask = cond (eqb (getD mask (length mask - 1) 0) 1) rate-0 (cond (eqb (getD mask 0 0) 1) (mixed mask (length mask)) rate-1)
 
 -- what these bytes tell of a mask of kind o
 pub record Told (mask : List ℕ) (o : Option Kind) : Type 0 where
@@ -128,7 +136,7 @@ pub record Told (mask : List ℕ) (o : Option Kind) : Type 0 where
 
 -- the first position is frozen and the last is not
 told-mixed : (mask : List ℕ) (k : Kind) → 0 < front k (length mask) → front k (length mask) < length mask → mask ≡ onlyFirst (front k (length mask)) (length mask)
-    → isKind rate-0 (some k) ≡ false → isKind rate-1 (some k) ≡ false → mixed mask ≡ k → Told mask (some k)
+    → isKind rate-0 (some k) ≡ false → isKind rate-1 (some k) ≡ false → mixed mask (length mask) ≡ k → Told mask (some k)
 told-mixed mask k low high e a b q =
     let f : ℕ = front k (length mask) in
     let last : getD mask (length mask - 1) 0 ≡ 0 = behind mask f (omega arith) e (length mask - 1) (omega arith) (omega arith) in
@@ -157,7 +165,23 @@ told-by mask type-III h e =
     let last-but-one : getD mask (length mask - 2) 0 ≡ 0 = behind mask 2 (omega arith) e (length mask - 2) (omega arith) (omega arith) in
     let second : getD mask 1 0 ≡ 1 = in-front mask 2 (omega arith) e 1 (omega arith) in
     told-mixed mask type-III (omega arith) (omega arith) e refl refl
-    (rw (last-but-one, second, behind mask 2 (omega arith) e (length mask - 3) (omega arith) (omega arith)))
+    (rw (last-but-one, second, behind mask 2 (omega arith) e (length mask - 3) (omega arith) (omega arith), behind mask 2 (omega arith) e 2 (omega arith) (omega arith))
+    (cond-both (λ (k : Kind). k ≡ type-III) (leb 8 (length mask)) refl refl))
+told-by mask type-II h e =
+    let f : ℕ = length mask - 3 in
+    let last-but-one : getD mask (length mask - 2) 0 ≡ 0 = behind mask f (omega arith) e (length mask - 2) (omega arith) (omega arith) in
+    let second : getD mask 1 0 ≡ 1 = in-front mask f (omega arith) e 1 (omega arith) in
+    let last-but-two : getD mask (length mask - 3) 0 ≡ 0 = behind mask f (omega arith) e (length mask - 3) (omega arith) (omega arith) in
+    let third : getD mask 2 0 ≡ 1 = in-front mask f (omega arith) e 2 (omega arith) in
+    told-mixed mask type-II (omega arith) (omega arith) e refl refl
+    (rw (last-but-one, second, last-but-two, le-leb 8 (length mask) h, third, in-front mask f (omega arith) e (length mask - 4) (omega arith)))
+told-by mask type-IV h e =
+    let last-but-one : getD mask (length mask - 2) 0 ≡ 0 = behind mask 3 (omega arith) e (length mask - 2) (omega arith) (omega arith) in
+    let second : getD mask 1 0 ≡ 1 = in-front mask 3 (omega arith) e 1 (omega arith) in
+    let last-but-two : getD mask (length mask - 3) 0 ≡ 0 = behind mask 3 (omega arith) e (length mask - 3) (omega arith) (omega arith) in
+    let third : getD mask 2 0 ≡ 1 = in-front mask 3 (omega arith) e 2 (omega arith) in
+    told-mixed mask type-IV (omega arith) (omega arith) e refl refl
+    (rw (last-but-one, second, last-but-two, le-leb 8 (length mask) h, third, behind mask 3 (omega arith) e (length mask - 4) (omega arith) (omega arith)))
 
 -- the mask by its own bytes
 pub record Read (mask : List ℕ) (o : Option Kind) : Type 0 where
@@ -203,8 +227,7 @@ abbrev pub byPlaces : List ℕ → Kind
 byPlaces mask =
     let m : List ℕ = frozenToZero mask in
     let l : ℕ = length mask in
-    cond (eqb (getD m (l - 1) 0) 1) rate-0 (cond (eqb (getD m 0 0) 1)
-    (cond (eqb (getD m (l - 2) 0) 1) REP (cond (eqb (getD m 1 0) 1) (cond (eqb (getD m (l - 3) 0) 1) type-I type-III) SPC)) rate-1)
+    cond (eqb (getD m (l - 1) 0) 1) rate-0 (cond (eqb (getD m 0 0) 1) (mixed m l) rate-1)
 
 pub by-ends : (mask : List ℕ) (k : Kind) → leastSize k ≤ length mask → byPlaces mask ≡ k → Ends mask (some k) (front k (length mask))
 by-ends mask k h e =
@@ -238,6 +261,8 @@ first-some f REP t = above f _ _ (above f _ _ (here f _ _ t))
 first-some f SPC t = above f _ _ (above f _ _ (above f _ _ (here f _ _ t)))
 first-some f type-I t = above f _ _ (above f _ _ (above f _ _ (above f _ _ (here f _ _ t))))
 first-some f type-III t = above f _ _ (above f _ _ (above f _ _ (above f _ _ (above f _ _ (here f _ _ t)))))
+first-some f type-II t = above f _ _ (above f _ _ (above f _ _ (above f _ _ (above f _ _ (above f _ _ (here f _ _ t))))))
+first-some f type-IV t = above f _ _ (above f _ _ (above f _ _ (above f _ _ (above f _ _ (above f _ _ (above f _ _ (here f _ _ t)))))))
 
 module _ (mask : List ℕ) {o : Option Kind} {f : ℕ} (E : Ends mask o f) where
   -- the run is that of the kind's pattern

@@ -6,9 +6,9 @@ use mathlib.Core.Option.{Option, none, some}
 use mathlib.Core.List.{List, [], _∷_}
 use lib.Dec.{T, eqb}
 use lib.ListN.{length}
-use Rattle.model.specs.Kinds.{Kind, rate-0, rate-1, REP, SPC, type-I, type-III, order, leastSize, kindOf, isSome, row}
+use Rattle.model.specs.Kinds.{Kind, rate-0, rate-1, REP, SPC, type-I, type-III, type-II, type-IV, order, leastSize, kindOf, isSome, row}
 use Rattle.kinds.specs.declared.Kind as code
-use Rattle.kinds.specs.declared.Kind.the-variants.{Rate0, Rate1, Rep, Spc, TypeI, TypeIII, NoKind}
+use Rattle.kinds.specs.declared.Kind.the-variants.{Rate0, Rate1, Rep, Spc, TypeI, TypeIII, TypeII, TypeIV, NoKind}
 
 -- the model's kind for each case of the code's answer
 abbrev pub kindNamed : code.Kind → Option Kind
@@ -18,6 +18,8 @@ kindNamed Rep = some REP
 kindNamed Spc = some SPC
 kindNamed TypeI = some type-I
 kindNamed TypeIII = some type-III
+kindNamed TypeII = some type-II
+kindNamed TypeIV = some type-IV
 kindNamed NoKind = none
 
 -- a kind's place in the table's order, and the number of kinds for none
@@ -38,6 +40,8 @@ front REP m = m - 1
 front SPC m = 1
 front type-I m = m - 2
 front type-III m = 2
+front type-II m = m - 3
+front type-IV m = 3
 
 -- what the bytes at both ends of a mask tell: if it is of a kind at all, then of this one, with the first f positions frozen
 pub record Ends (mask : List ℕ) (o : Option Kind) (f : ℕ) : Type 0 where

@@ -21,11 +21,13 @@ pub enum Kind {
     Spc,
     TypeI,
     TypeIII,
+    TypeII,
+    TypeIV,
     NoKind,
 }
 
 // The number of kinds.
-pub const KINDS: usize = 6;
+pub const KINDS: usize = 8;
 
 // What the table says of a kind, or of none: its place in the order, its own cycles, and whether its message is fixed.
 pub struct Row {
@@ -56,6 +58,8 @@ pub fn table_row(k: Kind) -> Row
         Kind::Spc => columns(3, 2, false),
         Kind::TypeI => columns(4, 2, false),
         Kind::TypeIII => columns(5, 2, false),
+        Kind::TypeII => columns(6, 4, false),
+        Kind::TypeIV => columns(7, 4, false),
         Kind::NoKind => columns(KINDS, 0, false),
     }
 }
@@ -114,9 +118,18 @@ fn candidate_at_ends(mask: &[u8]) -> Candidate
         return Candidate(Kind::Spc, 1);
     }
     if mask[m - 3] != UNFROZEN {
-        Candidate(Kind::TypeI, m - 2)
+        return Candidate(Kind::TypeI, m - 2);
+    }
+    if m < 8 {
+        return Candidate(Kind::TypeIII, 2);
+    }
+    if mask[2] == UNFROZEN {
+        return Candidate(Kind::TypeIII, 2);
+    }
+    if mask[m - 4] != UNFROZEN {
+        Candidate(Kind::TypeII, m - 3)
     } else {
-        Candidate(Kind::TypeIII, 2)
+        Candidate(Kind::TypeIV, 3)
     }
 }
 

@@ -1,5 +1,6 @@
 pub mod Sizes
 pub mod Without
 pub mod Others
+pub mod FourClasses
 pub mod Messages
 pub mod Folded

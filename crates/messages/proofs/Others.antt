@@ -10,8 +10,8 @@ use lib.ListN.{length}
 use lib.Dec.{eqb, eqb·suc-suc, eqb·suc-zero, eqb·zero-suc}
 use Rattle.model.specs.Lists.{total}
 use Rattle.model.specs.Soft.{Soft, finite, certain, softZero, _at_, box, plus, negative, signed, wordOf, differ}
-use Rattle.model.specs.Kinds.{others}
-use Rattle.model.proofs.Lists.{Monoid, total-ext, and-true}
+use Rattle.model.specs.Kinds.{others, classes}
+use Rattle.model.proofs.Lists.{Monoid, total-ext, and-true, getD-tabulate}
 use Rattle.model.proofs.Algebra.{plus-monoid, box-monoid, signed-zero}
 use Rattle.model.proofs.Bounds.{abs-signed}
 use Rattle.words.specs.Words.{Word, word}
@@ -87,7 +87,17 @@ module _ {op : Soft → Soft → Soft} {e : Soft} {R : Soft → List ℤ → Typ
         (others-over c i (omega arith) xs (λ k. ws (suc k)))
 
     -- a list of soft values that are the numbers of l
-    others-is : (s : ℕ) (l : List ℤ) → length l ≡ s → (L : List Soft) → ((k : ℕ) → k < s → L at k ≡ finite (word l k)) → ((k : ℕ) → Word (word l k)) → (k : ℕ)
+    pub classes-is : (s : ℕ) (l : List ℤ) → length l ≡ s → (L : List Soft) → ((k : ℕ) → k < s → L at k ≡ finite (word l k)) → ((k : ℕ) → Word (word l k)) → (c : ℕ) → c < p
+        → R (classes op e p s L at c) (strided p c l)
+    unfolding classes
+    classes-is s l len L same ws c h =
+        subst (λ (v : Soft). R v (strided p c l))
+        (ap (λ (n : ℕ). total op e n (λ j. cond (inClass c j) (finite (word l j)) e)) len
+        ∙ total-ext op e (G .monoid) s _ _ (λ j lt. ap (λ (v : Soft). cond (eqb (j % p) c) v e) (sym (same j lt)))
+        ∙ sym (getD-tabulate p (λ c. total op e s (λ j. cond (eqb (j % p) c) (L at j) e)) c softZero h))
+        (class-over c h l ws)
+
+    pub others-is : (s : ℕ) (l : List ℤ) → length l ≡ s → (L : List Soft) → ((k : ℕ) → k < s → L at k ≡ finite (word l k)) → ((k : ℕ) → Word (word l k)) → (k : ℕ)
         → R (others op e p s L k) (without (k / p) (strided p (k % p) l))
     unfolding others
     others-is s l len L same ws k =
@@ -98,7 +108,7 @@ module _ {op : Soft → Soft → Soft} {e : Soft} {R : Soft → List ℤ → Typ
         (others-over (k % p) (k / p) (mod-lt k pos-p) l ws)
 
 -- ---- sums
-sums : Gathers plus softZero (λ v t. v ≡ finite (sumZ t))
+pub sums : Gathers plus softZero (λ v t. v ≡ finite (sumZ t))
 unfolding plus sumZ
 sums = record { monoid = plus-monoid; none = refl; more = λ x v t _ r. ap (plus (finite x)) r }
 
@@ -115,7 +125,7 @@ sign-min a true n zero = let e : min n 0 ≡ 0 = omega arith in rw e (signed-zer
 sign-min a true n (suc m) = refl
 sign-min a false n m = refl
 
-boxes : Gathers box certain (λ v t. wordOf v ≡ signed (parity t) (least t))
+pub boxes : Gathers box certain (λ v t. wordOf v ≡ signed (parity t) (least t))
 unfolding parity least
 boxes =
     record {
@@ -133,20 +143,26 @@ module _ (p : ℕ) (pos-p : 0 < p) (s : ℕ) (l : List ℤ) (len : length l ≡ 
   abbrev class : List ℤ
   class = strided p (k % p) l
 
-  in-class : k / p < length (strided p (k % p) l)
+  pub in-class : k / p < length (strided p (k % p) l)
   in-class = class-lt p pos-p (k % p) (k / p) l (rw (mod-add-div k p, len) lt)
 
-  own-at : word (strided p (k % p) l) (k / p) ≡ word l k
+  pub own-at : word (strided p (k % p) l) (k / p) ≡ word l k
   own-at = class-at p pos-p (k % p) (k / p) l (pos 0) ∙ ap (word l) (mod-add-div k p)
 
+  sum-is : sumZ (without (k / p) (strided p (k % p) l)) ≡ sumOf p l (k % p) -ℤ word l k
+  sum-is = sum-without (k / p) class in-class ∙ ap (λ (z : ℤ). sumZ class -ℤ z) own-at
+
+  pub others-sum : others plus softZero p s L k ≡ finite (sumOf p l (k % p) -ℤ word l k)
+  others-sum = others-is sums p pos-p s l len L same ws k ∙ ap finite sum-is
+
   pub sum-value : sumOf p l (k % p) -ℤ word l k ≡ wordOf (others plus softZero p s L k)
-  sum-value =
-      sym (ap wordOf (others-is sums p pos-p s l len L same ws k) ∙ sum-without (k / p) class in-class ∙ ap (λ (z : ℤ). sumZ class -ℤ z) own-at)
+  sum-value = sym (ap wordOf others-sum)
+
+  pub class-small : natAbs (sumOf p l (k % p) -ℤ word l k) ≤ sizes (strided p (k % p) l)
+  class-small = subst (λ (z : ℤ). natAbs z ≤ sizes (strided p (k % p) l)) sum-is (abs-without (k / p) class)
 
   pub sum-small : natAbs (sumOf p l (k % p) -ℤ word l k) ≤ sizes l
-  sum-small =
-      rw (sum-value ∙ ap wordOf (others-is sums p pos-p s l len L same ws k))
-      (omega (arith, abs-without (k / p) class, sizes-strided p (k % p) l))
+  sum-small = omega (arith, class-small, sizes-strided p (k % p) l)
 
   pub box-value : leaveOut (gatherClass p l (k % p)) (word l k) ≡ wordOf (others box certain p s L k)
   box-value =

@@ -13,7 +13,7 @@ use Rattle.model.proofs.Shortcuts.{fits-facts, firstOf-fits}
 use Rattle.words.specs.Words.{word, soft, write}
 use Rattle.words.proofs.Laws.{soft-at, word-soft}
 use Rattle.words.proofs.Store.{write-ext}
-use Rattle.messages.specs.Cut.{othersWords, Sized, leastOf}
+use Rattle.messages.specs.Cut.{messageWords, Sized, leastOf}
 
 -- the kind that is found for a node has room in it
 pub kind-sized : (s t : ℕ) (mask : List ℕ) → s ≡ 2 ^ t → Sized (leastOf (kindOf s mask)) s
@@ -24,12 +24,16 @@ kind-sized s t mask e = record { stage = t; size = e; enough = go (kindOf s mask
     go none f = zero-le
     go (some k) f = fits-facts s mask k (firstOf-fits (fits s mask) order k f) .0
 
--- a period divides 4
+-- a period of 1 or 2 divides 4
 pub divides-four : (p : ℕ) → 0 < p → p ≤ 2 → 4 % p ≡ 0
 divides-four zero h le = absurd (omega arith)
 divides-four (suc zero) h le = refl
 divides-four (suc (suc zero)) h le = refl
 divides-four (suc (suc (suc p))) h le = absurd (omega arith)
+
+-- the words after an operation over the others of each class of period p was stored
+abbrev othersWords : (Soft → Soft → Soft) → Soft → ℕ → List ℤ → ℕ → ℕ → ℕ → List ℤ
+othersWords op e p w m x s = messageWords (others op e p) w m x s
 
 -- a power of two that is more than 2 is at least 4, and one that is more than 4 a multiple of 8
 pub past-two : {s : ℕ} → Sized 2 s → (s ≡ 2 → ⊥) → Sized 4 s
@@ -39,6 +43,9 @@ past-two {s} h no-pair = record { stage = h .stage; size = h .size; enough = go 
     go zero e = omega (arith, h .enough)
     go (suc zero) e = absurd (no-pair e)
     go (suc (suc t)) e = omega (arith, h .enough)
+
+pub eight-four : {s : ℕ} → Sized 8 s → Sized 4 s
+eight-four h = record { stage = h .stage; size = h .size; enough = omega (arith, h .enough) }
 
 pub fours : {s : ℕ} → Sized 4 s → s % 4 ≡ 0
 fours {s} h = go (h .stage) (h .size)

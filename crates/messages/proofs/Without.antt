@@ -24,14 +24,15 @@ without (suc k) (x ∷ xs) = x ∷ without k xs
 
 -- ---- sums
 -- the size of a sum of some of the numbers
+pub abs-sumZ : (l : List ℤ) → natAbs (sumZ l) ≤ sizes l
+unfolding sumZ sizes
+abs-sumZ [] = zero-le
+abs-sumZ (x ∷ xs) = omega (arith, abs-plus x (sumZ xs), abs-sumZ xs)
+
 pub abs-without : (k : ℕ) (l : List ℤ) → natAbs (sumZ (without k l)) ≤ sizes l
 unfolding without sumZ sizes
 abs-without k [] = zero-le
 abs-without zero (x ∷ xs) = omega (arith, abs-sumZ xs)
-  where
-    abs-sumZ : (l : List ℤ) → natAbs (sumZ l) ≤ sizes l
-    abs-sumZ [] = zero-le
-    abs-sumZ (x ∷ xs) = omega (arith, abs-plus x (sumZ xs), abs-sumZ xs)
 abs-without (suc k) (x ∷ xs) = omega (arith, abs-plus x (sumZ (without k xs)), abs-without k xs)
 
 pub sum-without : (k : ℕ) (l : List ℤ) → k < length l → sumZ (without k l) ≡ sumZ l -ℤ word l k
@@ -61,7 +62,7 @@ unfolding least next
 least-next [] = omega arith
 least-next (x ∷ xs) = omega (arith, least-next xs)
 
-least-at : (k : ℕ) (l : List ℤ) → k < length l → least l ≤ natAbs (word l k)
+pub least-at : (k : ℕ) (l : List ℤ) → k < length l → least l ≤ natAbs (word l k)
 unfolding least
 least-at k [] h = absurd (not-suc-le-zero h)
 least-at zero (x ∷ xs) h = omega arith

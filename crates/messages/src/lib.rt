@@ -5,6 +5,8 @@ use classes::gather_all;
 use classes::gather_all_folded;
 use extrinsic::spread;
 use extrinsic::subtract;
+use joined::gather_joined;
+use joined::totals_by;
 use kinds::Kind;
 use words::MARK;
 use words::fill;
@@ -13,12 +15,13 @@ ghost use mathlib.Core.Bool.{false};
 ghost use mathlib.Core.List.{List};
 ghost use Prim.Native.Nat.{_+_, _-_, _%_, _<_, _≤_};
 ghost use lib.ListN.{length};
-ghost use Rattle.model.specs.Soft.{Soft, certain, softZero, box, plus};
-ghost use Rattle.model.specs.Kinds.{leastSize, shortcut, rate-0, rate-1, REP, SPC, type-I, type-III};
+ghost use Rattle.model.specs.Soft.{Soft, certain, box};
+ghost use Rattle.model.specs.Kinds.{leastSize, others, typeIV, shortcut, rate-0, rate-1, REP, SPC, type-I, type-III, type-II, type-IV};
 ghost use Rattle.model.specs.Plans.{isRate01};
 ghost use Rattle.words.specs.Words.{soft, stored, word, write, Incoming};
 ghost use Rattle.kinds.specs.Runs.{kindNamed};
-ghost use Rattle.messages.specs.Cut.{cutWords, othersWords, Sized, leastOf};
+ghost use Rattle.classes.specs.Sums.{Period};
+ghost use Rattle.messages.specs.Cut.{cutWords, sumBy, boxBy, messageWords, Sized, leastOf};
 
 // The message of a rate-0 node: certain everywhere, whatever its incoming list L is.
 pub fn rate_zero_message(w: &mut [i32], m: usize, s: usize)
@@ -47,14 +50,16 @@ fn swapped(w: &mut [i32], m: usize, x: usize)
     w[m + 1] = a;
 }
 
-// The sum of the other incoming values of each place's class, by the period p.
+// The sum of the other incoming values of each place's class, by the period p; of four classes with the box of the other classes' sums.
 fn sum_message(w: &mut [i32], m: usize, x: usize, s: usize, p: usize)
-    requires { ⌜ (m + s ≤ x) × (x + s ≤ length (now w)) × (0 < p) × (p ≤ 2) × (s % 4 ≡ 0) ⌝ }
+    requires { ⌜ (m + s ≤ x) × (x + s ≤ length (now w)) × (s % 4 ≡ 0) ⌝ }
+    requires { ⌜ Period p ⌝ }
     requires { ⌜ Incoming (now w) x s ⌝ }
-    ensures { λ _. ⌜ now (w .exit) ≡ othersWords plus softZero p (now (w .entry)) m x s ⌝ }
+    ensures { λ _. ⌜ now (w .exit) ≡ messageWords (sumBy p) (now (w .entry)) m x s ⌝ }
 {
     let e = x + s;
-    let t = class_totals(&w[x..e], p);
+    let sums = class_totals(&w[x..e], p);
+    let t = totals_by(sums, p);
     subtract(w, m, x, s, t);
 }
 
@@ -62,7 +67,7 @@ fn sum_message(w: &mut [i32], m: usize, x: usize, s: usize, p: usize)
 fn box_small(w: &mut [i32], m: usize, x: usize, s: usize, p: usize)
     requires { ⌜ (m + s ≤ x) × (x + s ≤ length (now w)) × (0 < p) × (p ≤ 2) × (s % 4 ≡ 0) ⌝ }
     requires { ⌜ Incoming (now w) x s ⌝ }
-    ensures { λ _. ⌜ now (w .exit) ≡ othersWords box certain p (now (w .entry)) m x s ⌝ }
+    ensures { λ _. ⌜ now (w .exit) ≡ messageWords (others box certain p) (now (w .entry)) m x s ⌝ }
 {
     let e = x + s;
     let g = gather_all(&w[x..e], p);
@@ -73,7 +78,7 @@ fn box_small(w: &mut [i32], m: usize, x: usize, s: usize, p: usize)
 fn box_large(w: &mut [i32], m: usize, x: usize, s: usize, p: usize)
     requires { ⌜ (m + s ≤ x) × (x + s ≤ length (now w)) × (0 < p) × (p ≤ 2) × (s % 8 ≡ 0) ⌝ }
     requires { ⌜ Incoming (now w) x s ⌝ }
-    ensures { λ _. ⌜ now (w .exit) ≡ othersWords box certain p (now (w .entry)) m x s ⌝ }
+    ensures { λ _. ⌜ now (w .exit) ≡ messageWords (others box certain p) (now (w .entry)) m x s ⌝ }
 {
     let q = s / 4;
     fold(w, m, x, q);
@@ -81,13 +86,30 @@ fn box_large(w: &mut [i32], m: usize, x: usize, s: usize, p: usize)
     spread(w, m, x, s, g);
 }
 
-// box over the other incoming values of each place's class, by the period p.
-fn box_message(w: &mut [i32], m: usize, x: usize, s: usize, p: usize)
-    requires { ⌜ (m + s ≤ x) × (x + s ≤ length (now w)) × (0 < p) × (p ≤ 2) ⌝ }
+// box over the other incoming values of each class of four, boxed with the sum of the other classes' boxes.
+fn four_boxes(w: &mut [i32], m: usize, x: usize, s: usize)
+    requires { ⌜ (m + s ≤ x) × (x + s ≤ length (now w)) ⌝ }
     requires { ⌜ Sized 4 s ⌝ }
     requires { ⌜ Incoming (now w) x s ⌝ }
-    ensures { λ _. ⌜ now (w .exit) ≡ othersWords box certain p (now (w .entry)) m x s ⌝ }
+    ensures { λ _. ⌜ now (w .exit) ≡ messageWords typeIV (now (w .entry)) m x s ⌝ }
 {
+    let e = x + s;
+    let g = gather_joined(&w[x..e]);
+    spread(w, m, x, s, g);
+}
+
+// box over the other incoming values of each place's class, by the period p; of four classes with the sum of the other classes' boxes.
+fn box_message(w: &mut [i32], m: usize, x: usize, s: usize, p: usize)
+    requires { ⌜ (m + s ≤ x) × (x + s ≤ length (now w)) ⌝ }
+    requires { ⌜ Period p ⌝ }
+    requires { ⌜ Sized 4 s ⌝ }
+    requires { ⌜ Incoming (now w) x s ⌝ }
+    ensures { λ _. ⌜ now (w .exit) ≡ messageWords (boxBy p) (now (w .entry)) m x s ⌝ }
+{
+    if p == 4 {
+        four_boxes(w, m, x, s);
+        return;
+    }
     if s < 32 {
         box_small(w, m, x, s, p);
     } else {
@@ -143,6 +165,26 @@ pub fn type_three_message(w: &mut [i32], m: usize, x: usize, s: usize)
     box_message(w, m, x, s, 2);
 }
 
+// The message of a type II node: the sum of the other incoming values that are equal by index modulo 4, plus the box of the three other classes' sums.
+pub fn type_two_message(w: &mut [i32], m: usize, x: usize, s: usize)
+    requires { ⌜ (m + s ≤ x) × (x + s ≤ length (now w)) ⌝ }
+    requires { ⌜ Sized (leastSize type-II) s ⌝ }
+    requires { ⌜ Incoming (now w) x s ⌝ }
+    ensures { λ _. ⌜ now (w .exit) ≡ stored (now (w .entry)) m s (shortcut type-II s (soft (now (w .entry)) x s)) ⌝ }
+{
+    sum_message(w, m, x, s, 4);
+}
+
+// The message of a type IV node: box over the other incoming values that are equal by index modulo 4, boxed with the sum of the three other classes' boxes.
+pub fn type_four_message(w: &mut [i32], m: usize, x: usize, s: usize)
+    requires { ⌜ (m + s ≤ x) × (x + s ≤ length (now w)) ⌝ }
+    requires { ⌜ Sized (leastSize type-IV) s ⌝ }
+    requires { ⌜ Incoming (now w) x s ⌝ }
+    ensures { λ _. ⌜ now (w .exit) ≡ stored (now (w .entry)) m s (shortcut type-IV s (soft (now (w .entry)) x s)) ⌝ }
+{
+    box_message(w, m, x, s, 4);
+}
+
 // The message of a cut node, by its kind. A rate-0 or rate-1 node does not look at what it is handed.
 pub fn cut_message(w: &mut [i32], k: Kind, m: usize, x: usize, s: usize)
     requires { ⌜ (m + s ≤ x) × (x + s ≤ length (now w)) ⌝ }
@@ -157,6 +199,8 @@ pub fn cut_message(w: &mut [i32], k: Kind, m: usize, x: usize, s: usize)
         Kind::Spc => spc_message(w, m, x, s),
         Kind::TypeI => type_one_message(w, m, x, s),
         Kind::TypeIII => type_three_message(w, m, x, s),
+        Kind::TypeII => type_two_message(w, m, x, s),
+        Kind::TypeIV => type_four_message(w, m, x, s),
         Kind::NoKind => {}
     }
 }

@@ -2,8 +2,8 @@
 use mathlib.Core.Path.{_≡_, refl, sym, _∙_, ap, subst}
 use mathlib.Core.Bool.{Bool, true, false, cond, _&&_}
 use mathlib.Core.List.{List, [], _∷_}
-use Prim.Native.Nat.{ℕ, zero, suc, _+_, _*_, _-_, _^_, _<_, _≤_, min, zero-le, suc-le-suc}
-use native.Mathlib.Nat.{le-trans, le-of-eq, min-le-left, le-refl, mul-comm, mul-assoc, mul-one, suc-mul, add-comm, mul-le-mul-left, mul-le-mul-right}
+use Prim.Native.Nat.{ℕ, zero, suc, _+_, _*_, _-_, _^_, _%_, _<_, _≤_, min, zero-le, suc-le-suc}
+use native.Mathlib.Nat.{le-trans, le-of-eq, min-le-left, le-refl, mul-comm, mul-assoc, mul-one, suc-mul, add-comm, mul-le-mul-left, mul-le-mul-right, mod-eq-of-lt}
 use native.Mathlib.Omega.{arith}
 use lib.Dec.{T, eqb, ltb, ltb→lt}
 use lib.ListN.{getD, take, drop}
@@ -11,12 +11,12 @@ use lib.Pow.{suc-ones, pow-mono, pow-pos}
 use lib.IntN.{ℤ, pos, negsuc, natAbs, _+ℤ_, subℕ}
 use Rattle.model.specs.Lists.{tabulate, total}
 use Rattle.model.specs.Soft.{Soft, finite, certain, softZero, _at_, box, boxℤ, plus, signed, negative, differ, maxLlr}
-use Rattle.model.specs.Bounds.{Small, Under, cap, SmallAll, UnderAll, Within, Held, limit, AllUnder, ListSums, NodeSums, InRange}
+use Rattle.model.specs.Bounds.{Small, Under, cap, SmallAll, UnderAll, Within, Held, limit, AllUnder, ListSums, BoxSums, NodeSums, InRange}
 use Rattle.model.specs.Scan.{Tree, message, left, right, leafValue, start, toLeft, toRight, toNode, visit, sweeps, scan}
-use Rattle.model.proofs.Lists.{getD-tabulate, joined-lo, joined-hi, halves, only, and-l, and-r, absurd-bool, cond-both}
-use Rattle.model.specs.Kinds.{isSome, Kind, kindOf, shortcut}
+use Rattle.model.proofs.Lists.{getD-tabulate, joined-lo, joined-hi, halves, only, and-l, and-r, absurd-bool, cond-both, eqb-same, total-pull}
+use Rattle.model.specs.Kinds.{isSome, Kind, kindOf, shortcut, classes}
 use mathlib.Core.Option.{some}
-use Rattle.model.proofs.Algebra.{plus-comm}
+use Rattle.model.proofs.Algebra.{plus-comm, box-monoid}
 use Rattle.model.specs.Plans.{isCut, wellCut, putKind, walk}
 use Rattle.model.proofs.Shortcuts.{kind-visit, sound-start}
 use Rattle.model.proofs.Paths.{wellCut-cut, wellCut-through, well-l, well-r}
@@ -229,6 +229,20 @@ list-sums t B L room S c =
     small-mono (total plus softZero (2 ^ t) (λ j. cond (c j) (L at j) softZero)) (le-trans (le-of-eq (mul-comm (2 ^ t) B)) room)
     (small-total B (2 ^ t) (λ j. cond (c j) (L at j) softZero) (λ k h. cond-both (Small B) (c k) (S k h) zero-le))
 
+-- box over a class that has a place is no larger than the value there
+small-class : (m B : ℕ) (L : List Soft) → 4 ≤ m → ((k : ℕ) → k < m → Small B (L at k)) → (j : ℕ) → j < 4 → Small B (classes box certain 4 m L at j)
+unfolding classes
+small-class m B L h S j l =
+    subst (Small B)
+    (sym (getD-tabulate 4 (λ c. total box certain m (λ i. cond (eqb (i % 4) c) (L at i) certain)) j softZero l ∙ total-pull box certain box-monoid m (λ i. cond (eqb (i % 4) j) (L at i) certain) j (omega arith)))
+    (small-box B (cond (eqb (j % 4) j) (L at j) certain) (total box certain m (λ i. cond (eqb i j) certain (cond (eqb (i % 4) j) (L at i) certain)))
+    (rw (mod-eq-of-lt l, eqb-same j) (S j (omega arith))))
+
+box-sums : (t B : ℕ) (L : List Soft) → B * 2 ^ t ≤ limit → SmallAll t B L → 8 ≤ 2 ^ t → BoxSums t L
+box-sums t B L room S big c =
+    small-mono (total plus softZero 4 (λ j. cond (c j) (classes box certain 4 (2 ^ t) L at j) softZero)) (le-trans (le-trans (le-of-eq (mul-comm 4 B)) (mul-le-mul-left B (omega arith))) room)
+    (small-total B 4 (λ j. cond (c j) (classes box certain 4 (2 ^ t) L at j) softZero) (λ j l. cond-both (Small B) (c j) (small-class (2 ^ t) B L (omega arith) S j l) zero-le))
+
 node-sums : (t B : ℕ) (L r₀ l r : List Soft) → B * 2 ^ suc t ≤ limit → SmallAll (suc t) B L
     → UnderAll t (cap t (2 * B)) r₀ → UnderAll t (cap t (2 * B)) r → NodeSums (2 ^ t) L r₀ l r
 node-sums t B L r₀ l r room S U₀ U k h = (
@@ -303,5 +317,5 @@ in-range plan zero p mask = λ B P L room w S H. in-limit zero B L room S
 in-range plan (suc t) p mask = go (isCut plan p) refl (in-range plan t (2 * p) (take (2 ^ t) mask)) (in-range plan t (2 * p + 1) (drop (2 ^ t) mask))
   where
     go : (b : Bool) → isCut plan p ≡ b → RangeStep plan t (2 * p) (take (2 ^ t) mask) → RangeStep plan t (2 * p + 1) (drop (2 ^ t) mask) → RangeStep plan (suc t) p mask
-    go true e rl rr = λ B P L room w S H. (in-limit (suc t) B L room S, λ _. list-sums (suc t) B L room S, λ q. absurd (absurd-bool (isCut plan p) e q))
+    go true e rl rr = λ B P L room w S H. (in-limit (suc t) B L room S, λ _. (list-sums (suc t) B L room S, box-sums (suc t) B L room S), λ q. absurd (absurd-bool (isCut plan p) e q))
     go false e rl rr = range-through plan t p mask e rl rr

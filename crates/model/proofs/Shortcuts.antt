@@ -14,11 +14,11 @@ use Rattle.model.specs.Lists.{tabulate, same}
 use Rattle.model.specs.Soft.{Soft, certain, softZero, _at_, box, plus}
 use Rattle.model.specs.Encoding.{frozenToZero}
 use Rattle.model.specs.Scan.{Tree, message, left, right, leafValue, start, toLeft, toRight, toNode, visit}
-use Rattle.model.specs.Kinds.{Kind, rate-0, rate-1, REP, SPC, type-I, type-III, order, leastSize, butLast, onlyFirst, pattern, fits, firstOf, kindOf, others, shortcut}
+use Rattle.model.specs.Kinds.{Kind, rate-0, rate-1, REP, SPC, type-I, type-III, type-II, type-IV, order, leastSize, butLast, onlyFirst, pattern, fits, firstOf, kindOf, others, typeII, typeIV, shortcut}
 use Rattle.model.proofs.Lists.{double, getD-tabulate, tabulate-ext, tabulate-halves, and-l, and-r, same→eq, le-of-pow}
 use Rattle.model.proofs.Algebra.{box-certain, box-zero, box-zero-r, box-comm, plus-zero, plus-zero-r, plus-certain, plus-comm, box-monoid, plus-monoid}
 use Rattle.model.proofs.FrozenPositions.{toZero-at, toZero-l, toZero-r, toZero-unfrozen, toZero-none}
-use Rattle.model.proofs.Others.{spread, Local, spread-left, spread-right, spread-base}
+use Rattle.model.proofs.Others.{spread, Local, spread-left, spread-right, spread-base, others-local}
 
 -- ---- halves of the patterns
 module _ (t : ℕ) where
@@ -290,6 +290,30 @@ spc-kind a t mask T L S h e =
     (e ∙ ap (λ (n : ℕ). replicate (2 ^ a) 1 ++ replicate (2 ^ t - n) 0) (sym (length-replicate {A = ℕ} (2 ^ a) 1)))
     ∙ tabulate-ext (2 ^ t) (spread box certain (2 ^ a) (λ L k. certain) (2 ^ t) L) (others box certain (2 ^ a) (2 ^ t) L) (λ k _. box-certain (others box certain (2 ^ a) (2 ^ t) L k))
 
+-- type II grows from SPC of size 4, type IV from REP of size 4
+type-II-kind : (t : ℕ) (mask : List ℕ) (T : Tree) (L : List Soft) → Sound t mask T → 8 ≤ 2 ^ t → mask ≡ butLast 3 (2 ^ t)
+    → message (visit t T L) ≡ tabulate (2 ^ t) (typeII (2 ^ t) L)
+type-II-kind t mask T L S h e =
+    rep-visit 2 (1 ∷ 0 ∷ 0 ∷ 0 ∷ []) refl (others box certain 1 4) (others-local box certain box-monoid 1 4)
+    (λ mask T L S e. spc-kind 0 2 mask T L S (omega arith) e)
+    t (above 2 t (le-of-pow 2 t (omega arith))) mask T L S
+    (e ∙ ap (λ (n : ℕ). replicate n 1 ++ 0 ∷ 0 ∷ 0 ∷ []) one-more ∙ ap (λ (l : List ℕ). l ++ 0 ∷ 0 ∷ 0 ∷ []) (sym (replicate-append-replicate (2 ^ t - 4) 1 1))
+    ∙ append-assoc (replicate (2 ^ t - 4) 1) (1 ∷ []) (0 ∷ 0 ∷ 0 ∷ []))
+  where
+    one-more : 2 ^ t - 3 ≡ (2 ^ t - 4) + 1
+    one-more = omega arith
+
+type-IV-kind : (t : ℕ) (mask : List ℕ) (T : Tree) (L : List Soft) → Sound t mask T → 8 ≤ 2 ^ t → mask ≡ onlyFirst 3 (2 ^ t)
+    → message (visit t T L) ≡ tabulate (2 ^ t) (typeIV (2 ^ t) L)
+type-IV-kind t mask T L S h e =
+    spc-visit 2 (1 ∷ 1 ∷ 1 ∷ 0 ∷ []) refl (others plus softZero 1 4) (others-local plus softZero plus-monoid 1 4)
+    (λ mask T L S e. rep-kind 0 2 mask T L S (omega arith) e)
+    t (above 2 t (le-of-pow 2 t (omega arith))) mask T L S
+    (e ∙ ap (λ (n : ℕ). 1 ∷ 1 ∷ 1 ∷ replicate n 0) one-more)
+  where
+    one-more : 2 ^ t - 3 ≡ suc (2 ^ t - 4)
+    one-more = omega arith
+
 -- Each kind's message does not depend on what is stored, and is what SCAN walked to the leaves gives the node.
 pub shortcut-visit : (k : Kind) (t : ℕ) (mask : List ℕ) (T : Tree) (L : List Soft) → Sound t mask T → leastSize k ≤ 2 ^ t → mask ≡ pattern k (2 ^ t)
     → message (visit t T L) ≡ shortcut k (2 ^ t) L
@@ -300,6 +324,8 @@ shortcut-visit REP t mask T L S h e = rep-kind 0 t mask T L S (omega arith) e
 shortcut-visit SPC t mask T L S h e = spc-kind 0 t mask T L S (omega arith) e
 shortcut-visit type-I t mask T L S h e = rep-kind 1 t mask T L S (omega arith) e
 shortcut-visit type-III t mask T L S h e = spc-kind 1 t mask T L S (omega arith) e
+shortcut-visit type-II t mask T L S h e = type-II-kind t mask T L S h e
+shortcut-visit type-IV t mask T L S h e = type-IV-kind t mask T L S h e
 
 pub fits-facts : (m : ℕ) (mask : List ℕ) (k : Kind) → T (fits m mask k) → (leastSize k ≤ m) × (frozenToZero mask ≡ pattern k m)
 fits-facts m mask k t =

@@ -1,4 +1,4 @@
--- Kinds of node: the table, a column a definition. Assumes nothing.
+-- Kinds of node: the table of document 01 with the two rows of request No. 3, a column a definition. Assumes nothing.
 use Prim.Native.Nat.{ℕ, suc, _-_, _%_}
 use mathlib.Core.Bool.{Bool, true, false, cond, not, _&&_}
 use mathlib.Core.Option.{Option, none, some}
@@ -11,11 +11,11 @@ use Rattle.model.specs.Encoding.{frozenToZero}
 
 -- the table's first column
 pub data Kind : Type 0 where
-  rate-0 rate-1 REP SPC type-I type-III : Kind
+  rate-0 rate-1 REP SPC type-I type-III type-II type-IV : Kind
 
 -- the table's order
 abbrev pub order : List Kind
-order = rate-0 ∷ rate-1 ∷ REP ∷ SPC ∷ type-I ∷ type-III ∷ []
+order = rate-0 ∷ rate-1 ∷ REP ∷ SPC ∷ type-I ∷ type-III ∷ type-II ∷ type-IV ∷ []
 
 -- all frozen but the last s, of m
 abbrev pub butLast : ℕ → ℕ → List ℕ
@@ -33,6 +33,8 @@ pattern REP m = butLast 1 m
 pattern SPC m = onlyFirst 1 m
 pattern type-I m = butLast 2 m
 pattern type-III m = onlyFirst 2 m
+pattern type-II m = butLast 3 m
+pattern type-IV m = onlyFirst 3 m
 
 -- column "size": the least
 abbrev pub leastSize : Kind → ℕ
@@ -42,6 +44,8 @@ leastSize REP = 2
 leastSize SPC = 2
 leastSize type-I = 4
 leastSize type-III = 4
+leastSize type-II = 8
+leastSize type-IV = 8
 
 -- a cut node's own cycles in the latency model
 abbrev pub ownCycles : Kind → ℕ
@@ -51,6 +55,8 @@ ownCycles REP = 2
 ownCycles SPC = 2
 ownCycles type-I = 2
 ownCycles type-III = 2
+ownCycles type-II = 4
+ownCycles type-IV = 4
 
 -- whether the message is fixed: the same whatever the node is handed
 abbrev pub isFixed : Kind → Bool
@@ -60,10 +66,24 @@ isFixed REP = false
 isFixed SPC = false
 isFixed type-I = false
 isFixed type-III = false
+isFixed type-II = false
+isFixed type-IV = false
 
 -- an operation over the other incoming values at places that are equal modulo s; e is its value over none
 unfoldable pub others : (Soft → Soft → Soft) → Soft → ℕ → ℕ → List Soft → ℕ → Soft
 others op e s m L k = total op e m (λ j. cond (eqb (j % s) (k % s) && not (eqb j k)) (L at j) e)
+
+-- an operation over all incoming values of each class of places that are equal modulo s
+unfoldable pub classes : (Soft → Soft → Soft) → Soft → ℕ → ℕ → List Soft → List Soft
+classes op e s m L = tabulate s (λ c. total op e m (λ j. cond (eqb (j % s) c) (L at j) e))
+
+-- four classes of places, by index modulo 4: the sum of the own class without the own value, plus the box of the three other classes' sums
+abbrev pub typeII : ℕ → List Soft → ℕ → Soft
+typeII m L k = plus (others plus softZero 4 m L k) (others box certain 1 4 (classes plus softZero 4 m L) (k % 4))
+
+-- four classes again: the box over the own class without the own value, boxed with the sum of the three other classes' boxes
+abbrev pub typeIV : ℕ → List Soft → ℕ → Soft
+typeIV m L k = box (others box certain 4 m L k) (others plus softZero 1 4 (classes box certain 4 m L) (k % 4))
 
 -- column "message of the node", for size m and the incoming list L
 unfoldable pub shortcut : Kind → ℕ → List Soft → List Soft
@@ -73,6 +93,8 @@ shortcut REP m L = tabulate m (others plus softZero 1 m L)
 shortcut SPC m L = tabulate m (others box certain 1 m L)
 shortcut type-I m L = tabulate m (others plus softZero 2 m L)
 shortcut type-III m L = tabulate m (others box certain 2 m L)
+shortcut type-II m L = tabulate m (typeII m L)
+shortcut type-IV m L = tabulate m (typeIV m L)
 
 -- whether a node of size m with its part of the mask is of a kind
 abbrev pub fits : ℕ → List ℕ → Kind → Bool
@@ -100,6 +122,8 @@ tag REP = 2
 tag SPC = 3
 tag type-I = 4
 tag type-III = 5
+tag type-II = 6
+tag type-IV = 7
 
 -- the place of a kind in a list of kinds
 abbrev pub placeIn : List Kind → Kind → ℕ

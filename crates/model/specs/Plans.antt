@@ -142,7 +142,7 @@ cutsOf k plan (suc t) p mask =
     bit (isCut plan p && isKind k (kindOf (2 ^ suc t) mask))
     + (cutsOf k plan t (2 * p) (take (2 ^ t) mask) + cutsOf k plan t (2 * p + 1) (drop (2 ^ t) mask))
 
--- six counts by kind, in table order
+-- counts by kind, in table order
 unfoldable pub counts : List ℕ → ℕ → List ℕ → List ℕ
 counts plan n mask = map (λ k. cutsOf k plan n 1 mask) order
 

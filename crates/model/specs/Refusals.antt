@@ -137,7 +137,7 @@ planNumber mask room =
 unfoldable pub planBytes : List ℕ → List ℕ → List ℕ
 planBytes mask plan = accepted (planNumber mask (length plan)) (over (plannerPlan (exponent (length mask)) mask) plan) plan
 
--- the six counts
+-- the counts by kind
 unfoldable pub planCounts : List ℕ → ℕ → List ℕ
 planCounts mask room =
     let n : ℕ = exponent (length mask) in

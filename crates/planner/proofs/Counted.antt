@@ -108,7 +108,7 @@ module _ (k : Kind) (P : List ℕ) where
       go false e il ir =
           rw (C .1 e .0) (omega (arith, il (C .1 e .1), ir (C .1 e .2)))
 
--- ---- all six
+-- ---- all kinds
 -- a list of as many numbers as there are kinds, by its numbers
 by-kind : (l : List ℕ) → length l ≡ length order → l ≡ map (λ k. getD l (row k) 0) order
 unfolding tabulate

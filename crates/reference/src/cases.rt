@@ -13,7 +13,7 @@ ghost use Prim.Native.Nat.{_≤_};
 pub struct Case {
     // N is 2 ^ stage.
     pub stage: usize,
-    // Style of the mask, 0 to 16, and its argument: the stage of a structured node (10 to 15), or the mask as a number (16).
+    // Style of the mask, 0 to 18, and its argument: the stage of a structured node (10 to 17), or the mask as a number (18).
     pub mask: usize,
     pub detail: usize,
     // Style of the plan, 0 to 3 (see nodes.rt).
@@ -54,7 +54,7 @@ fn ruled_frozen(style: usize, stage: usize, i: usize, threshold: usize) -> bool
     }
 }
 
-// Styles 10 to 15: the node of 2 ^ detail positions around the threshold has the pattern of a kind, and the others are drawn.
+// Styles 10 to 17: the node of 2 ^ detail positions around the threshold has the pattern of a kind, and the others are drawn.
 fn node_frozen(kind: u8, size: usize, i: usize, threshold: usize, x: u32) -> bool {
     if size == 0 {
         return false;
@@ -73,7 +73,9 @@ fn kind_of_style(style: usize) -> u8 {
         12 => 2,
         13 => 3,
         14 => 4,
-        _ => 5,
+        15 => 5,
+        16 => 6,
+        _ => 7,
     }
 }
 
@@ -99,7 +101,7 @@ fn frozen(c: Case, i: usize, x: u32) -> bool
     if c.mask < 10 {
         return ruled_frozen(c.mask, c.stage, i, threshold);
     }
-    if c.mask < 16 {
+    if c.mask < 18 {
         let kind = kind_of_style(c.mask);
         return node_frozen(
             kind,

@@ -1,6 +1,6 @@
 // Kinds of nodes, plans and cycles: a kind is found by trying the table's patterns position by position, and a plan is judged path
 // by path and node by node.
-// Kinds are numbered in table order from 0, and 6 is none. Node p of a plan has the children 2p and 2p + 1.
+// Kinds are numbered in table order from 0, and 8 is none. Node p of a plan has the children 2p and 2p + 1.
 use test_tools::buffers::Bytes;
 use test_tools::numbers::bit_if;
 use test_tools::numbers::both;
@@ -9,7 +9,7 @@ use test_tools::numbers::minus;
 use test_tools::numbers::next;
 ghost use Prim.Native.Nat.{_≤_};
 
-const NO_KIND: u8 = 6;
+const NO_KIND: u8 = 8;
 
 // ---- kinds
 
@@ -21,7 +21,9 @@ pub fn pattern(kind: u8, size: usize, k: usize) -> bool {
         2 => k < minus(size, 1),
         3 => k < 1,
         4 => k < minus(size, 2),
-        _ => k < 2,
+        5 => k < 2,
+        6 => k < minus(size, 3),
+        _ => k < 3,
     }
 }
 
@@ -30,7 +32,8 @@ pub fn least_stage(kind: u8) -> usize {
     match kind {
         0 | 1 => 0,
         2 | 3 => 1,
-        _ => 2,
+        4 | 5 => 2,
+        _ => 3,
     }
 }
 
@@ -135,7 +138,7 @@ pub fn draw_plan(kinds: Bytes, stage: usize, style: usize, seed: u32, over: Byte
 pub struct Judged {
     pub allowed: bool,
     pub cycles: u32,
-    pub counts: [u32; 6],
+    pub counts: [u32; 8],
 }
 
 // Whether a node is cut and of no kind, or a leaf whose path has not exactly one cut.
@@ -154,14 +157,17 @@ fn node_cycles(kind: u8, cut: bool, root: bool, above: u8) -> u32 {
     if both(cut, kind < 2) {
         return 0;
     }
+    if both(cut, 5 < kind) {
+        return if root { 4 } else { 6 };
+    }
     if root { 2 } else { 4 }
 }
 
 // The counts with one more of a kind, if the node is cut.
-fn counted(counts: [u32; 6], kind: u8, cut: bool) -> [u32; 6] {
+fn counted(counts: [u32; 8], kind: u8, cut: bool) -> [u32; 8] {
     let mut next = counts;
-    if both(cut, kind < 6) {
-        let i = (kind % 6) as usize;
+    if both(cut, kind < 8) {
+        let i = (kind % 8) as usize;
         next[i] = std::num::wrapping_add_u32(counts[i], 1);
     }
     next
@@ -182,7 +188,7 @@ pub fn judge(kinds: Bytes, stage: usize, plan: Bytes) -> Judged {
     let mut found = Judged {
         allowed: true,
         cycles: 0,
-        counts: [0; 6],
+        counts: [0; 8],
     };
     let mut paths = [0u8; 4112];
     let mut p = 1;

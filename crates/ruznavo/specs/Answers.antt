@@ -21,7 +21,7 @@ planCycles mask room =
 abbrev pub PlanAnswer : List ℕ → ℕ → ℕ → Type 0
 PlanAnswer mask room r = r ≡ planNumber mask room + 256 * planCycles mask room
 
--- the buffer of the six counts afterwards
+-- the buffer of the counts by kind afterwards
 unfoldable pub hostCounts : List ℕ → ℕ → List ℕ → List ℕ
 hostCounts mask room counts = accepted (planNumber mask room) (planCounts mask room) counts
 

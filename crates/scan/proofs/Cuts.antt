@@ -12,7 +12,7 @@ use lib.ListN.{length, take, drop}
 use Rattle.model.specs.Lists.{tabulate, part}
 use Rattle.model.specs.Soft.{Soft, certain, softZero, _at_, box, plus, mark, wordOf, softOf}
 use Rattle.model.specs.Scan.{leaf}
-use Rattle.model.specs.Kinds.{isSome, isKind, Kind, rate-0, rate-1, REP, SPC, type-I, type-III, kindOf, shortcut, others}
+use Rattle.model.specs.Kinds.{isSome, isKind, Kind, rate-0, rate-1, REP, SPC, type-I, type-III, type-II, type-IV, kindOf, shortcut, others, typeII, typeIV}
 use Rattle.model.specs.Plans.{isRate01, isCut, wellCut, putKind, put}
 use Rattle.model.specs.Bounds.{limit, Small, Under, cap}
 use Rattle.model.proofs.Lists.{T-true, absurd-bool, double, tabulate-ext, getD-tabulate, and-l}
@@ -43,6 +43,8 @@ shortcut-list REP n L = own-places n (others plus softZero 1 n L)
 shortcut-list SPC n L = own-places n (others box certain 1 n L)
 shortcut-list type-I n L = own-places n (others plus softZero 2 n L)
 shortcut-list type-III n L = own-places n (others box certain 2 n L)
+shortcut-list type-II n L = own-places n (typeII n L)
+shortcut-list type-IV n L = own-places n (typeIV n L)
 
 -- a leaf of a plan that is well cut is cut
 pub leaf-cut : (plan : List ℕ) (p : ℕ) (mask : List ℕ) → T (wellCut plan 0 p mask) → isCut plan p ≡ true
@@ -85,6 +87,8 @@ module _ (plan mask : List ℕ) (N t s p b x : ℕ) (first : Bool) (w v : List �
       go SPC p j lt = looked k e (ap (λ (y : Kind). isRate01 (some y)) p) j lt
       go type-I p j lt = looked k e (ap (λ (y : Kind). isRate01 (some y)) p) j lt
       go type-III p j lt = looked k e (ap (λ (y : Kind). isRate01 (some y)) p) j lt
+      go type-II p j lt = looked k e (ap (λ (y : Kind). isRate01 (some y)) p) j lt
+      go type-IV p j lt = looked k e (ap (λ (y : Kind). isRate01 (some y)) p) j lt
 
   read-back : (k : Kind) → kindOf (2 ^ t) (part mask b (2 ^ t)) ≡ some k → v ≡ stored w (t * N + b) (2 ^ t) (shortcut k (2 ^ t) L) → soft v (t * N + b) (2 ^ t) ≡ shortcut k (2 ^ t) L
   unfolding soft

@@ -10,7 +10,7 @@ use lib.ListN.{getD}
 use Rattle.model.specs.Soft.{Soft, certain, softZero, _at_}
 use Rattle.model.specs.Scan.{Tree, message}
 use Rattle.model.specs.Lists.{tabulate}
-use Rattle.model.specs.Kinds.{Kind, rate-0, rate-1, REP, SPC, type-I, type-III, order, row, isKind, kindOf, shortcut}
+use Rattle.model.specs.Kinds.{Kind, rate-0, rate-1, REP, SPC, type-I, type-III, type-II, type-IV, order, row, isKind, kindOf, shortcut}
 use Rattle.model.specs.Plans.{isCut, isRate01, putKind, walk}
 use Rattle.model.proofs.Lists.{getD-tabulate}
 use Rattle.model.proofs.PlannedWalk.{walk-cut, message-put}
@@ -30,6 +30,8 @@ rate-01 (some REP) = refl
 rate-01 (some SPC) = refl
 rate-01 (some type-I) = refl
 rate-01 (some type-III) = refl
+rate-01 (some type-II) = refl
+rate-01 (some type-IV) = refl
 
 pub fixed-constant : (plan : List ℕ) (m p : ℕ) (mask : List ℕ) (a z : Bool) → FixedAs plan m p mask a z → (a || z) ≡ constant plan m p mask
 fixed-constant plan m p mask a z f = ap (λ (x : Bool). x || z) (f .as-certain) ∙ ap (λ (x : Bool). (isCut plan p && isKind rate-0 (kindOf m mask)) || x) (f .as-zero) ∙ go (isCut plan p)
@@ -46,6 +48,8 @@ row-kind REP = refl
 row-kind SPC = refl
 row-kind type-I = refl
 row-kind type-III = refl
+row-kind type-II = refl
+row-kind type-IV = refl
 
 pub is-kind : (k : Kind) (o : Option Kind) → isKind k o ≡ true → o ≡ some k
 is-kind k none e = absurd (subst T (sym e) tt)

@@ -12,7 +12,7 @@ use lib.Pow.{pow-pos}
 use lib.ListN.{length, take, drop}
 use Rattle.model.specs.Soft.{Soft, certain, softZero, _at_, mark, softOf}
 use Rattle.model.specs.Scan.{Tree, node, message, left, right, toLeft, toRight, toNode}
-use Rattle.model.specs.Kinds.{isSome, Kind, rate-0, rate-1, REP, SPC, type-I, type-III, kindOf, shortcut}
+use Rattle.model.specs.Kinds.{isSome, Kind, rate-0, rate-1, REP, SPC, type-I, type-III, type-II, type-IV, kindOf, shortcut}
 use Rattle.model.specs.Plans.{isRate01, putKind, isCut, wellCut, walk}
 use Rattle.model.specs.Bounds.{limit, SmallAll, UnderAll, Held, cap}
 use Rattle.model.proofs.Lists.{absurd-bool, double, tabulate-halves, and-l, and-r}
@@ -97,6 +97,8 @@ rate01-same (some REP) m L L′ P e = absurd (subst T (sym e) tt)
 rate01-same (some SPC) m L L′ P e = absurd (subst T (sym e) tt)
 rate01-same (some type-I) m L L′ P e = absurd (subst T (sym e) tt)
 rate01-same (some type-III) m L L′ P e = absurd (subst T (sym e) tt)
+rate01-same (some type-II) m L L′ P e = absurd (subst T (sym e) tt)
+rate01-same (some type-IV) m L L′ P e = absurd (subst T (sym e) tt)
 
 walk-constant : (plan : List ℕ) (t p : ℕ) (mask : List ℕ) (P : Tree) (L L′ : List Soft) → constant plan (2 ^ t) p mask ≡ true → walk plan t p mask P L ≡ walk plan t p mask P L′
 walk-constant plan t p mask P L L′ e =

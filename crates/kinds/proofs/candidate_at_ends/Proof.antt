@@ -1,8 +1,17 @@
 -- `kinds::candidate_at_ends` meets its contract: its tests are those that tell a mask of some kind by its ends. Assumes nothing.
-use Prim.Native.Nat.{_-_, _<_}
+use mathlib.Core.Path.{_≡_, refl}
+use mathlib.Core.Bool.{cond}
+use mathlib.Core.Option.{some}
+use Prim.Native.Nat.{_-_, _≤_, _<_}
 use native.Mathlib.Omega.{arith}
-use lib.ListN.{length}
-use Rattle.model.specs.Kinds.{rate-0, rate-1, REP, SPC, type-I, type-III}
+use borrow.Author.Needs.{needs}
+use borrow.Author.Tests.{le-leb, lt-leb}
+use lib.Dec.{eqb, leb}
+use lib.ListN.{length, getD}
+use Rattle.model.specs.Encoding.{frozenToZero}
+use Rattle.model.proofs.Lists.{cond-both}
+use Rattle.model.specs.Kinds.{Kind, rate-0, rate-1, REP, SPC, type-I, type-III, type-II, type-IV, leastSize}
+use Rattle.kinds.specs.Runs.{front, Ends}
 use Rattle.kinds.proofs.Runs.{by-ends, frozen, unfrozen, apart}
 use Rattle.kinds.proofs.candidate_at_ends.Statement.{statement}
 use Rattle.kinds.proofs.candidate_at_ends.Tie as tie
@@ -72,32 +81,62 @@ four c =
     let mask = e .before .before .before .before .before .before .args .mask .now in
     omega (arith, three e, apart mask 1 (length mask - 2) (c .if4 .left) (e .if3 .left))
 
-sub-if5 : tie.Need-sub-if5
-sub-if5 c = omega (arith, four c)
-
-shared-slice-read-if5 : tie.Need-shared-slice-read-if5
-shared-slice-read-if5 c = omega (arith, four (c .before))
-
-sub-t18 : tie.Need-sub-t18
-sub-t18 c = omega (arith, four (c .before .before))
+-- the kinds that are left, by the bytes further in
+within : (c : tie.Else4) (k : Kind) → let mask = c .before .before .before .before .before .before .before .before .args .mask .now in
+    leastSize k ≤ length mask
+    → cond (eqb (getD (frozenToZero mask) (length mask - 3) 0) 1) type-I
+    (cond (leb 8 (length mask)) (cond (eqb (getD (frozenToZero mask) 2 0) 1) (cond (eqb (getD (frozenToZero mask) (length mask - 4) 0) 1) type-II type-IV) type-III) type-III)
+    ≡ k
+    → Ends mask (some k) (front k (length mask))
+within c k room q =
+    let e = c .before .before in
+    let d = e .before .before in
+    let mask = d .before .before .before .before .args .mask .now in
+    by-ends mask k room
+    (rw (unfrozen mask (length mask - 1) (d .before .before .if1 .left), frozen mask 0 (d .if2 .left), unfrozen mask (length mask - 2) (e .if3 .left), frozen mask 1 (c .if4 .left)) q)
 
 returns-5 : tie.Need-returns-5
 returns-5 c =
     let g = c .before .before in
-    let e = g .before .before in
-    let d = e .before .before in
-    let mask = d .before .before .before .before .args .mask .now in
-    by-ends mask type-I (four g)
-    (rw (unfrozen mask (length mask - 1) (d .before .before .if1 .left), frozen mask 0 (d .if2 .left), unfrozen mask (length mask - 2) (e .if3 .left), frozen mask 1 (g .if4 .left), frozen mask (length mask - 3) (c .if5 .taken)))
+    let mask = g .before .before .before .before .before .before .before .before .args .mask .now in
+    within g type-I (four g) (rw (frozen mask (length mask - 3) (c .if5 .taken)))
 
 returns-6 : tie.Need-returns-6
 returns-6 c =
-    let g = c .before .before in
-    let e = g .before .before in
-    let d = e .before .before in
-    let mask = d .before .before .before .before .args .mask .now in
-    by-ends mask type-III (four g)
-    (rw (unfrozen mask (length mask - 1) (d .before .before .if1 .left), frozen mask 0 (d .if2 .left), unfrozen mask (length mask - 2) (e .if3 .left), frozen mask 1 (g .if4 .left), unfrozen mask (length mask - 3) (c .if5 .left)))
+    let g = c .before .before .before in
+    let mask = g .before .before .before .before .before .before .before .before .args .mask .now in
+    within g type-III (four g) (rw (unfrozen mask (length mask - 3) (c .before .if5 .left), lt-leb 8 (length mask) (omega (arith, c .if6 .taken))))
+
+returns-7 : tie.Need-returns-7
+returns-7 c =
+    let h = c .before .before in
+    let g = h .before .before .before in
+    let mask = g .before .before .before .before .before .before .before .before .args .mask .now in
+    within g type-III (four g)
+    (rw (unfrozen mask (length mask - 3) (h .before .if5 .left), unfrozen mask 2 (c .if7 .taken)) (cond-both (λ (k : Kind). k ≡ type-III) (leb 8 (length mask)) refl refl))
+
+-- the third position is frozen, and the last but two is not
+last : (c : tie.Else7) (k : Kind) → let mask = c .before .before .before .before .before .before .before .before .before .before .before .before .before .args .mask .now in
+    leastSize k ≤ 8
+    → cond (eqb (getD (frozenToZero mask) (length mask - 4) 0) 1) type-II type-IV ≡ k
+    → Ends mask (some k) (front k (length mask))
+last c k small q =
+    let h = c .before .before in
+    let g = h .before .before .before in
+    let mask = g .before .before .before .before .before .before .before .before .args .mask .now in
+    within g k (omega (arith, small, h .if6 .left)) (rw (unfrozen mask (length mask - 3) (h .before .if5 .left), le-leb 8 (length mask) (h .if6 .left), frozen mask 2 (c .if7 .left)) q)
+
+returns-8 : tie.Need-returns-8
+returns-8 c =
+    let e = c .before .before in
+    let mask = e .before .before .before .before .before .before .before .before .before .before .before .before .before .args .mask .now in
+    last e type-II (omega arith) (rw (frozen mask (length mask - 4) (c .if8 .taken)))
+
+returns-9 : tie.Need-returns-9
+returns-9 c =
+    let e = c .before .before in
+    let mask = e .before .before .before .before .before .before .before .before .before .before .before .before .before .args .mask .now in
+    last e type-IV (omega arith) (rw (unfrozen mask (length mask - 4) (c .if8 .left)))
 
 pub candidate-at-ends-spec : {M : Type 1} → statement M
 candidate-at-ends-spec =
@@ -114,8 +153,13 @@ candidate-at-ends-spec =
     returns-3
     shared-slice-read-if4
     returns-4
-    sub-if5
-    shared-slice-read-if5
-    sub-t18
+    (λ c. omega (arith, four c)) (λ c. omega (arith, four (c .before)))  -- mask[m - 3]
+    (λ c. omega (arith, four (c .before .before)))
     returns-5
-    returns-6)
+    returns-6
+    (λ c. search needs)  -- mask[2]
+    returns-7
+    (λ c. search needs) (λ c. search needs)  -- mask[m - 4]
+    (λ c. search needs)
+    returns-8
+    returns-9)

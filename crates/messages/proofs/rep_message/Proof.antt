@@ -1,5 +1,5 @@
 -- `messages::rep_message` meets its contract: of two values the others are the other one. Assumes nothing.
-use mathlib.Core.Path.{_∙_}
+use mathlib.Core.Path.{refl, _∙_}
 use native.Mathlib.Omega.{arith}
 use Rattle.model.specs.Soft.{plus, softZero}
 use Rattle.model.specs.Kinds.{shortcut}
@@ -13,7 +13,7 @@ sum-message-requires c κs =
     let s = c .before .before in
     let p = s .pre .0 in
     let h = past-two (s .pre .1 .0) (c .before .if1 .left) in
-    ((p .0, p .1, omega arith, omega arith, fours h), s .pre .1 .1)
+    ((p .0, p .1, fours h), (record { some = omega arith; most = omega arith; divides = refl }, s .pre .1 .1))
 
 returns : tie.Need-returns
 unfolding shortcut

@@ -1,5 +1,5 @@
 -- `messages::spc_message` meets its contract: of two values the others are the other one. Assumes nothing.
-use mathlib.Core.Path.{_∙_}
+use mathlib.Core.Path.{refl, _∙_}
 use native.Mathlib.Omega.{arith}
 use Rattle.model.specs.Soft.{box, certain}
 use Rattle.model.specs.Kinds.{shortcut}
@@ -13,7 +13,7 @@ box-message-requires c κs =
     let s = c .before .before in
     let p = s .pre .0 in
     let h = past-two (s .pre .1 .0) (c .before .if1 .left) in
-    ((p .0, p .1, omega arith, omega arith), (h, s .pre .1 .1))
+    ((p .0, p .1), (record { some = omega arith; most = omega arith; divides = refl }, (h, s .pre .1 .1)))
 
 returns : tie.Need-returns
 unfolding shortcut

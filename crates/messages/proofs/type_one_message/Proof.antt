@@ -1,4 +1,5 @@
 -- `messages::type_one_message` meets its contract: that is the message by the period 2. Assumes nothing.
+use mathlib.Core.Path.{refl}
 use native.Mathlib.Omega.{arith}
 use Rattle.model.specs.Kinds.{shortcut}
 use Rattle.messages.proofs.Sizes.{fours}
@@ -10,4 +11,4 @@ unfolding shortcut
 returns c = c .before .sum-message .ensures
 
 pub type-one-message-spec : {M : Type 1} → statement M
-type-one-message-spec = tie.close (tie.spec (λ c κs. let s = c .before in let p = s .pre .0 in ((p .0, p .1, omega arith, omega arith, fours (s .pre .1 .0)), s .pre .1 .1)) (λ c. omega arith) returns)
+type-one-message-spec = tie.close (tie.spec (λ c κs. let s = c .before in let p = s .pre .0 in ((p .0, p .1, fours (s .pre .1 .0)), (record { some = omega arith; most = omega arith; divides = refl }, s .pre .1 .1))) (λ c. omega arith) returns)

@@ -1,4 +1,5 @@
 -- `messages::type_three_message` meets its contract: that is the message by the period 2. Assumes nothing.
+use mathlib.Core.Path.{refl}
 use native.Mathlib.Omega.{arith}
 use Rattle.model.specs.Kinds.{shortcut}
 use Rattle.messages.proofs.type_three_message.Statement.{statement}
@@ -9,4 +10,4 @@ unfolding shortcut
 returns c = c .before .box-message .ensures
 
 pub type-three-message-spec : {M : Type 1} → statement M
-type-three-message-spec = tie.close (tie.spec (λ c κs. let s = c .before in let p = s .pre .0 in ((p .0, p .1, omega arith, omega arith), (s .pre .1 .0, s .pre .1 .1))) (λ c. omega arith) returns)
+type-three-message-spec = tie.close (tie.spec (λ c κs. let s = c .before in let p = s .pre .0 in ((p .0, p .1), (record { some = omega arith; most = omega arith; divides = refl }, (s .pre .1 .0, s .pre .1 .1)))) (λ c. omega arith) returns)

@@ -1,14 +1,14 @@
--- `decode_test::accepted::same_counts` is safe and ends. The loop's invariant: i is at most 6. Assumes nothing.
+-- `decode_test::accepted::same_counts` is safe and ends. The loop's invariant: i is at most 8. Assumes nothing.
 use Prim.Native.Nat.{_-_, _≤_}
 use borrow.Author.Needs.{needs}
 use Rattle.decode_test.proofs.accepted.same_counts.Statement.{statement}
 use Rattle.decode_test.proofs.accepted.same_counts.Tie as tie
 
 abbrev Inv-loop : tie.InvT-loop
-Inv-loop a b i₀ i = i ≤ 6
+Inv-loop a b i₀ i = i ≤ 8
 
 abbrev μ-loop : tie.MeasureT-loop
-μ-loop a b i₀ i = 6 - i
+μ-loop a b i₀ i = 8 - i
 
 loop-holds : tie.Need-loop-holds Inv-loop μ-loop
 loop-holds c = search needs

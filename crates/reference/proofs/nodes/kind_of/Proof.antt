@@ -1,14 +1,14 @@
--- `reference::nodes::kind_of` is safe and ends. The loop's invariant: the kind is at most 6. Assumes nothing.
+-- `reference::nodes::kind_of` is safe and ends. The loop's invariant: the kind is at most 8. Assumes nothing.
 use Prim.Native.Nat.{_-_, _≤_}
 use borrow.Author.Needs.{needs}
 use Rattle.reference.proofs.nodes.kind_of.Statement.{statement}
 use Rattle.reference.proofs.nodes.kind_of.Tie as tie
 
 abbrev Inv-loop : tie.InvT-loop
-Inv-loop mask first size kind₀ kind = kind ≤ 6
+Inv-loop mask first size kind₀ kind = kind ≤ 8
 
 abbrev μ-loop : tie.MeasureT-loop
-μ-loop mask first size kind₀ kind = 6 - kind
+μ-loop mask first size kind₀ kind = 8 - kind
 
 loop-holds : tie.Need-loop-holds Inv-loop μ-loop
 loop-holds c = search needs
