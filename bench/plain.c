@@ -41,7 +41,9 @@ static int known_kind(const uint8_t *mask, size_t size) {
     if (!mask[0]) return RATE_1;
     if (mask[size - 2]) return REP;
     if (!mask[1]) return SPC;
-    return mask[size - 3] ? TYPE_I : TYPE_III;
+    if (mask[size - 3]) return TYPE_I;
+    if (!mask[2]) return TYPE_III;
+    return mask[size - 4] ? TYPE_II : TYPE_IV;
 }
 
 // The cycles of a sweep at an uncut node whose children are of these kinds, or UNCUT.
@@ -94,7 +96,7 @@ static int plan_node(const uint8_t *mask, size_t size, uint8_t *plan, size_t nod
     if (kind != NO_KIND) {
         plan[node] = 1;
         counts[kind]++;
-        *cycles += kind > RATE_1 ? 2 : 0;
+        *cycles += cut_cycles(kind);
         return kind;
     }
     size_t half = size / 2;
@@ -155,6 +157,43 @@ static void spc_message(const int32_t *restrict list, int32_t *restrict message,
     }
 }
 
+// The sum of the others of the own class modulo 4, plus the box of the three other classes' sums.
+static void type_ii_message(const int32_t *restrict list, int32_t *restrict message, size_t size) {
+    int32_t sums[4] = {0}, totals[4];
+    for (size_t k = 0; k < size; k += 4)
+        for (size_t c = 0; c < 4; c++) sums[c] += list[k + c];
+    int32_t other_pair[2] = {box(sums[2], sums[3]), box(sums[0], sums[1])};
+    for (size_t c = 0; c < 4; c++) totals[c] = sums[c] + box(sums[c ^ 1], other_pair[c / 2]);
+    for (size_t k = 0; k < size; k += 4)
+        for (size_t c = 0; c < 4; c++) message[k + c] = totals[c] - list[k + c];
+}
+
+// The box over the others of the own class modulo 4, boxed with the sum of the three other classes' boxes.
+static void type_iv_message(const int32_t *restrict list, int32_t *restrict message, size_t size) {
+    int32_t least[4], next[4], signs[4], boxes[4], where_least[4], elsewhere[4], sum = 0;
+    for (size_t c = 0; c < 4; c++) least[c] = next[c] = CERTAIN, signs[c] = 0;
+    for (size_t k = 0; k < size; k += 4)
+        for (size_t c = 0; c < 4; c++) {
+            int32_t value = list[k + c], x = value < 0 ? -value : value, larger = x < least[c] ? least[c] : x;
+            signs[c] ^= value;
+            next[c] = larger < next[c] ? larger : next[c];
+            least[c] = x < least[c] ? x : least[c];
+        }
+    for (size_t c = 0; c < 4; c++) sum += boxes[c] = signs[c] < 0 ? -least[c] : least[c];
+    for (size_t c = 0; c < 4; c++) {
+        int32_t others = sum - boxes[c], most = others < 0 ? -others : others;
+        signs[c] ^= others;
+        where_least[c] = next[c] < most ? next[c] : most;
+        elsewhere[c] = least[c] < most ? least[c] : most;
+    }
+    for (size_t k = 0; k < size; k += 4)
+        for (size_t c = 0; c < 4; c++) {
+            int32_t value = list[k + c], x = value < 0 ? -value : value;
+            int32_t other = x == least[c] ? where_least[c] : elsewhere[c];
+            message[k + c] = (signs[c] ^ value) < 0 ? -other : other;
+        }
+}
+
 static void fill(int32_t *words, size_t n, int32_t value) {
     for (size_t k = 0; k < n; k++) words[k] = value;
 }
@@ -167,6 +206,8 @@ static void cut_message(const uint8_t *mask, const int32_t *list, int32_t *messa
     case SPC: spc_message(list, message, size, 1); break;
     case TYPE_I: rep_message(list, message, size, 2); break;
     case TYPE_III: spc_message(list, message, size, 2); break;
+    case TYPE_II: type_ii_message(list, message, size); break;
+    case TYPE_IV: type_iv_message(list, message, size); break;
     }
 }
 
@@ -219,7 +260,7 @@ static int check_node(const uint8_t *mask, size_t size, const uint8_t *plan, siz
     if (plan[node]) {
         int kind = kind_of(mask, size);
         facts->cuts++;
-        facts->cycles += kind > RATE_1 ? 2 : 0;
+        facts->cycles += cut_cycles(kind);
         facts->fault |= kind == NO_KIND;
         return kind;
     }

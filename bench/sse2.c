@@ -85,16 +85,33 @@ INLINE void node_message_rate_1(const int32_t *list, const int32_t *children, in
 INLINE vector other_pair(vector a) { return _mm_shuffle_epi32(a, 0x4E); }
 INLINE vector other_word(vector a) { return _mm_shuffle_epi32(a, 0xB1); }
 
-// REP, of 4 words or more; with stride 2, over even and over odd places.
-static void rep_message(const int32_t *list, int32_t *message, size_t size, int stride) {
+// The sums of the four classes of places modulo 4.
+INLINE vector class_sums(const int32_t *list, size_t size) {
     vector sum = load(list);
     for (size_t k = 4; k < size; k += 4) sum = _mm_add_epi32(sum, load(list + k));
-    sum = _mm_add_epi32(sum, other_pair(sum));
-    if (stride == 1) sum = _mm_add_epi32(sum, other_word(sum));
+    return sum;
+}
+
+// A sum less the own value.
+INLINE void less_own(const int32_t *list, int32_t *message, size_t size, vector sum) {
     for (size_t k = 0; k < size; k += 4) store(message + k, _mm_sub_epi32(sum, load(list + k)));
 }
 
-// The least and the second least size of two groups of places, and the product of their signs.
+// REP, of 4 words or more; with stride 2, over even and over odd places.
+static void rep_message(const int32_t *list, int32_t *message, size_t size, int stride) {
+    vector sum = class_sums(list, size);
+    sum = _mm_add_epi32(sum, other_pair(sum));
+    if (stride == 1) sum = _mm_add_epi32(sum, other_word(sum));
+    less_own(list, message, size, sum);
+}
+
+// Type II: the sum of the others of the own class, plus the box of the three other classes' sums.
+static void type_ii_message(const int32_t *list, int32_t *message, size_t size) {
+    vector sums = class_sums(list, size), pairs = box(sums, other_word(sums));
+    less_own(list, message, size, _mm_add_epi32(sums, box(other_word(sums), other_pair(pairs))));
+}
+
+// The least and the second least size of a group of places, and the product of their signs, for four groups.
 typedef struct {
     vector least, next, signs;
 } gathered;
@@ -107,23 +124,46 @@ INLINE gathered join(gathered a, gathered b) {
     return both;
 }
 
-// SPC, of 4 words or more; with stride 2, over even and over odd places.
-static void spc_message(const int32_t *list, int32_t *message, size_t size, int stride) {
-    vector certain = _mm_set1_epi32(CERTAIN);
-    gathered g = {size_of(load(list)), certain, load(list)};
+// The groups are the four classes of places modulo 4.
+INLINE gathered gather(const int32_t *list, size_t size) {
+    gathered g = {size_of(load(list)), _mm_set1_epi32(CERTAIN), load(list)};
     for (size_t k = 4; k < size; k += 4) {
         vector x = load(list + k), s = size_of(x);
         g.next = least_of(g.next, largest_of(g.least, s));
         g.least = least_of(g.least, s);
         g.signs = _mm_xor_si128(g.signs, x);
     }
+    return g;
+}
+
+INLINE vector with_sign(vector size, vector signs) {
+    vector sign = _mm_srai_epi32(signs, 31);
+    return _mm_sub_epi32(_mm_xor_si128(size, sign), sign);
+}
+
+// `other.next` where the size is the least, `other.least` elsewhere, with the product of the other signs.
+INLINE void spread(const int32_t *list, int32_t *message, size_t size, vector least, gathered other) {
+    for (size_t k = 0; k < size; k += 4) {
+        vector x = load(list + k), value = choose(_mm_cmpeq_epi32(size_of(x), least), other.next, other.least);
+        store(message + k, with_sign(value, _mm_xor_si128(x, other.signs)));
+    }
+}
+
+// SPC, of 4 words or more; with stride 2, over even and over odd places.
+static void spc_message(const int32_t *list, int32_t *message, size_t size, int stride) {
+    gathered g = gather(list, size);
     g = join(g, (gathered){other_pair(g.least), other_pair(g.next), other_pair(g.signs)});
     if (stride == 1) g = join(g, (gathered){other_word(g.least), other_word(g.next), other_word(g.signs)});
-    for (size_t k = 0; k < size; k += 4) {
-        vector x = load(list + k), value = choose(_mm_cmpeq_epi32(size_of(x), g.least), g.next, g.least);
-        vector sign = _mm_srai_epi32(_mm_xor_si128(x, g.signs), 31);
-        store(message + k, _mm_sub_epi32(_mm_xor_si128(value, sign), sign));
-    }
+    spread(list, message, size, g.least, g);
+}
+
+// Type IV: the box over the others of the own class, boxed with the sum of the three other classes' boxes.
+static void type_iv_message(const int32_t *list, int32_t *message, size_t size) {
+    gathered g = gather(list, size);
+    vector boxes = with_sign(g.least, g.signs), pairs = _mm_add_epi32(boxes, other_word(boxes));
+    vector others = _mm_add_epi32(other_word(boxes), other_pair(pairs)), most = size_of(others);
+    gathered other = {least_of(g.least, most), least_of(g.next, most), _mm_xor_si128(g.signs, others)};
+    spread(list, message, size, g.least, other);
 }
 
 static void fill(int32_t *words, size_t n, int32_t value) {
@@ -142,6 +182,8 @@ enum {
     CUT_SPC,
     CUT_TYPE_I,
     CUT_TYPE_III,
+    CUT_TYPE_II,
+    CUT_TYPE_IV,
     CUT_PAIR
 };
 
@@ -185,7 +227,7 @@ static void build_cut(builder *b, int kind, size_t size, size_t list, size_t mes
     else if (kind == RATE_1) b->zeros[b->zero_count++] = (step){0, (uint16_t)size, 0, (uint16_t)message};
     else if (kind == RATE_0) add_step(b, CUT_RATE_0, size, list, message);
     else add_step(b, size == 2 ? CUT_PAIR : CUT_REP + kind - REP, size, list, message);
-    if (kind != RATE_0 && kind != RATE_1) b->cycles += 2;
+    b->cycles += cut_cycles(kind);
 }
 
 // The steps of a visit of a node of this kind.
@@ -253,6 +295,8 @@ static void cut_step(int what, const int32_t *list, int32_t *message, size_t siz
     case CUT_SPC: spc_message(list, message, size, 1); break;
     case CUT_TYPE_I: rep_message(list, message, size, 2); break;
     case CUT_TYPE_III: spc_message(list, message, size, 2); break;
+    case CUT_TYPE_II: type_ii_message(list, message, size); break;
+    case CUT_TYPE_IV: type_iv_message(list, message, size); break;
     case CUT_PAIR:
         message[0] = list[1];
         message[1] = list[0];

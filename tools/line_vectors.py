@@ -1,8 +1,8 @@
 #!/usr/bin/env python3
 """Prints crates/line_test/stdin: inputs of the line program, each with the answer that document 01 gives.
 
-The answers come from the model here, which is written from document 01 alone: SCAN walked to the last leaf, the planner and its cycles, the
-line's grammar, its refusals and its output. Where an answer or a number is plain from document 01, the model is compared with that.
+The answers come from the model here, which is written from documents 01 and 02 alone: SCAN walked to the last leaf, the planner and its
+cycles, the line's grammar, its refusals and its output. Where an answer or a number is plain from them, the model is compared with that.
 Run: python3 tools/line_vectors.py > crates/line_test/stdin
 With the number of a case it prints that case's input instead, for target/bin/polar_line.
 
@@ -77,9 +77,10 @@ def digits_of(bits):
 # ---- the planner's plan and its cycles
 
 def table(m):
-    """Document 01's kinds in order: name, least size, and the pattern at size m."""
+    """The kinds of document 01 and of request No. 3 in order: name, least size, and the pattern at size m."""
     return [('rate-0', 1, '1' * m), ('rate-1', 1, '0' * m), ('REP', 2, '1' * (m - 1) + '0'), ('SPC', 2, '1' + '0' * (m - 1)),
-            ('type I', 4, '1' * (m - 2) + '00'), ('type III', 4, '11' + '0' * (m - 2))]
+            ('type I', 4, '1' * (m - 2) + '00'), ('type III', 4, '11' + '0' * (m - 2)),
+            ('type II', 8, '1' * (m - 3) + '000'), ('type IV', 8, '111' + '0' * (m - 3))]
 
 
 def kind(part):
@@ -98,7 +99,7 @@ def cycles(part):
     """The cycles of one sweep from a node down."""
     constant = ('rate-0', 'rate-1')
     if kind(part):
-        return 0 if kind(part) in constant else 2
+        return 0 if kind(part) in constant else 4 if kind(part) in ('type II', 'type IV') else 2
     h = len(part) // 2
     return 2 + sum(cycles(child) + (0 if kind(child) in constant else 2) for child in (part[:h], part[h:]))
 
@@ -213,6 +214,10 @@ def answers(file):
             ('SPC of 8', b'10000000 1 1 -2 3 -4 5 -6 7 -8\n', 'ok 2 2 -1 1 -1 1 -1 1 -1 '),
             ('type I of 8', b'11111100 1 1 2 3 4 5 6 7 8\n', 'ok 2 15 18 13 16 11 14 9 12 '),
             ('type III of 8', b'11000000 1 1 -2 3 -4 5 -6 7 -8\n', 'ok 2 3 -4 1 -2 1 -2 1 -2 '),
+            ('type II of 8', b'11111000 1 1 -2 3 -4 5 -6 7 -8\n', 'ok 4 13 -12 13 -14 9 -8 9 -10 '),
+            ('type IV of 8', b'11100000 1 1 -2 3 -4 5 -6 7 -8\n', 'ok 4 5 -6 7 -6 1 -2 3 -4 '),
+            ('type II of 8, a class of sum 0', b'11111000 3 1 -2 3 -4 -1 -6 7 -8\n', 'ok 12 7 -6 7 -8 9 -2 3 -4 '),
+            ('type IV of 8, boxes that add up to 0', b'11100000 3 9 1 2 -3 9 6 5 8\n', 'ok 12 0 6 5 8 0 1 2 -3 '),
             ('largest sum', b'11111110 1' + b' 32767' * 8 + b'\n', 'ok 2' + ' 229369' * 8),
             ('least sum', b'11111110 1' + b' -32767' * 8 + b'\n', 'ok 2' + ' -229369' * 8 + ' 11111111 1 1\n')]:
         file.case(name, line, expected)
@@ -440,6 +445,8 @@ def large_lines(file):
                 ('SPC, one negative', '1' + '0' * m, 3, [5] * m + [-1], 'ok 6' + ' -1' * m + ' 5 '),
                 ('type I', '1' * (n - 2) + '00', 2, [2, -3] * (n // 2), 'ok 4' + f' {2 * (n // 2 - 1)} {-3 * (n // 2 - 1)}' * (n // 2)),
                 ('type III', '11' + '0' * (n - 2), 8, [2, -3] * (n // 2), 'ok 16' + ' 2 -3' * (n // 2)),
+                ('type II', '1' * (n - 3) + '000', 2, [1, 2, -1, 1] * (n // 4), 'ok 8' + f' -1 {n // 4 - 2} 1 -1' * (n // 4)),
+                ('type IV', '111' + '0' * (n - 3), 8, [20, -3, 5, -7] * (n // 4), 'ok 32' + ' 15 -3 5 -7' * (n // 4)),
                 ('alternating mask', '10' * (n // 2), 1, [1, -2, 3, 4] * (n // 4), f'ok {4 * n - 6} '),
                 ('other half frozen', '0' * (n // 2) + '1' * (n // 2), 8, [1, -2, 3, 4] * (n // 4), 'ok 16 '),
                 ('1 LLR fewer', '10' * (n // 2), 1, [1] * m, 3),
@@ -489,7 +496,7 @@ def drawn_mask(n, style):
     """Nodes of all kinds side by side, or by the ones of the index and the index, with some chance, or by chance alone."""
     if style % 7 == 0 and n >= 64:
         patterns = [pattern for _, _, pattern in table(n // 8)]
-        return list(map(int, ''.join(random.sample(patterns + patterns[4:], 8))))
+        return list(map(int, ''.join(random.sample(patterns, 8))))
     weight, chance = [(n // 4, 0), (n // 4, n // 8), (n // 2, n), (0, n), (n, 0), (n // 2, 0), (0, 8 * n)][style % 7]
     measure = [i + weight * bin(i).count('1') + random.randint(0, chance) for i in range(n)]
     frozen = random.randint(0, n) if n <= 8 else random.randint(n // 4, n * 3 // 4)
@@ -514,7 +521,7 @@ def drawn(file):
             kinds.setdefault(n, set()).update(cuts(read(line)[1]))
             ends.add(answer(line)[-2:])
         file.group(f'N {n} drawn')
-    assert all(len(kinds[n]) == 6 for n in ALLOWED if n >= 64), kinds
+    assert all(len(kinds[n]) == 8 for n in ALLOWED if n >= 64), kinds
     assert ends == {b'0\n', b'1\n'}
 
 

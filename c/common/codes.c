@@ -25,14 +25,19 @@ void code_for_erasures(uint8_t *mask, size_t N, size_t K, double rate) {
 
 /* One kind's pattern, from a size at which it exists. */
 static void kind_pattern(uint8_t *mask, size_t m, int kind) {
-    size_t run[REF_KINDS] = {m, 0, m - 1, 1, m - 2, 2};
+    size_t run[REF_KINDS] = {m, 0, m - 1, 1, m - 2, 2, m - 3, 3};
     for (size_t i = 0; i < m; i++) mask[i] = i < run[kind];
+}
+
+/* A node of a random kind. */
+static void kind_mask(struct random *r, uint8_t *mask, size_t m) {
+    kind_pattern(mask, m, (int)random_below(r, m < 2 ? 2 : m < 4 ? 4 : m < 8 ? 6 : 8));
 }
 
 /* Nodes of kinds side by side: a node is either of a random kind or two such nodes. */
 static void mixed_mask(struct random *r, uint8_t *mask, size_t m) {
     if (m == 1 || random_chance(r, 0.3)) {
-        kind_pattern(mask, m, (int)random_below(r, m < 2 ? 2 : m < 4 ? 4 : 6));
+        kind_mask(r, mask, m);
         return;
     }
     mixed_mask(r, mask, m / 2);
@@ -41,16 +46,17 @@ static void mixed_mask(struct random *r, uint8_t *mask, size_t m) {
 
 void random_mask(struct random *r, uint8_t *mask, size_t N) {
     double density = random_uniform(r);
-    switch (random_below(r, 6)) {
-    case 0: memset(mask, (int)random_below(r, 2), N); break;
-    case 1: code_for_erasures(mask, N, random_below(r, N + 1), random_uniform(r)); break;
-    case 2: {
+    switch (random_below(r, 7)) {
+    case 0:
+    case 1: kind_mask(r, mask, N); break;
+    case 2: code_for_erasures(mask, N, random_below(r, N + 1), random_uniform(r)); break;
+    case 3: {
         size_t run = random_below(r, N + 1);
         for (size_t i = 0; i < N; i++) mask[i] = i < run;
         break;
     }
-    case 3:
-    case 4: mixed_mask(r, mask, N); break;
+    case 4:
+    case 5: mixed_mask(r, mask, N); break;
     default:
         for (size_t i = 0; i < N; i++) mask[i] = (uint8_t)random_chance(r, density);
     }

@@ -13,7 +13,7 @@
  */
 void code_for_erasures(uint8_t *mask, size_t N, size_t K, double rate);
 
-/* A mask of one of several shapes: even density, all or none frozen, a polar code, a run, or nodes of kinds side by
+/* A mask of one of several shapes: even density, one node of a kind, a polar code, a run, or nodes of kinds side by
  * side. */
 void random_mask(struct random *r, uint8_t *mask, size_t N);
 

@@ -1,6 +1,6 @@
 /*
- * The calls of ruznavo.h again, written from document 01 and not from the library: SCAN walked to the last leaf over
- * 64-bit numbers, no plan followed, every definition taken literally. For tests and simulations.
+ * The calls of ruznavo.h again, written from documents 01 and 02 and not from the library: SCAN walked to the last leaf
+ * over 64-bit numbers, no plan followed, every definition taken literally. For tests and simulations.
  *
  * Each ref_ call returns the refusal number. A refused call writes nothing, and sets its other results to 0.
  */
@@ -10,7 +10,7 @@
 #include <stddef.h>
 #include <stdint.h>
 
-enum { REF_MAX_N = 1024, REF_MAX_STAGE = 10, REF_MAX_SWEEPS = 8, REF_KINDS = 6 };
+enum { REF_MAX_N = 1024, REF_MAX_STAGE = 10, REF_MAX_SWEEPS = 8, REF_KINDS = 8 };
 
 /* n of N = 2^n, from 1 to 10; 0 of any other number. */
 int ref_exponent(size_t N);

@@ -65,6 +65,8 @@ enum {
     RUZNAVO_SPC,      /* only the first frozen */
     RUZNAVO_TYPE_I,   /* all frozen but the last two */
     RUZNAVO_TYPE_III, /* only the first two frozen */
+    RUZNAVO_TYPE_II,  /* all frozen but the last three */
+    RUZNAVO_TYPE_IV,  /* only the first three frozen */
     RUZNAVO_KINDS
 };
 

@@ -40,6 +40,9 @@ static uint64_t seed = 1, case_number;
 static uint64_t number_seen[CALLS][13], stage_seen[CALLS][REF_MAX_STAGE + 1], sweeps_seen[REF_MAX_SWEEPS + 1],
     check_seen[2];
 
+/* Nodes of a kind by their stage, in accepted decodes: those that the plan goes below, and those that it cuts. */
+static uint64_t kind_seen[2][REF_KINDS][REF_MAX_STAGE + 1];
+
 enum slot { MASK, PLAN_BYTES, LLRS, SOFT, HARD, PAYLOAD, WORK, SAMPLE_VALUES, MARKS, WORD, COUNTS, SLOTS };
 static const char *const slot_names[SLOTS] = {"mask", "plan",    "llrs",  "soft", "hard",  "payload",
                                               "work", "samples", "marks", "word", "counts"};
@@ -384,6 +387,15 @@ static void damage_decode(struct random *r, struct code *c, struct plan *p, int1
     }
 }
 
+/* The nodes from p down to the cuts, for an allowed plan. */
+static void count_kinds(const uint8_t *mask, size_t N, const uint8_t *plan, size_t p, int stage) {
+    int kind = ref_node_kind(mask, N, p);
+    if (kind >= 0) kind_seen[plan[p]][kind][stage]++;
+    if (plan[p]) return;
+    count_kinds(mask, N, plan, 2 * p, stage - 1);
+    count_kinds(mask, N, plan, 2 * p + 1, stage - 1);
+}
+
 static void decode_case(struct random *r) {
     static struct code c;
     static struct plan p;
@@ -418,6 +430,7 @@ static void decode_case(struct random *r) {
     stage_seen[DECODE][ref_exponent(c.mask_length)]++;
     sweeps_seen[m.sweeps]++;
     check_seen[check]++;
+    count_kinds(c.mask, c.mask_length, p.bytes, 1, ref_exponent(c.mask_length));
 }
 
 /* ---- document 01's frames, so that library and reference cannot be wrong alike there */
@@ -439,6 +452,9 @@ static const struct frame frames[] = {
     {"1100", 1, {1, 2, 3, 4}, {3, 4, 1, 2}, 2},
     {"11", 1, {7, -4}, {RUZNAVO_CERTAIN, RUZNAVO_CERTAIN}, 0},
     {"00", 1, {7, -4}, {0, 0}, 0},
+    /* and a node of type II and one of type IV, worked out by hand */
+    {"11111000", 1, {1, -2, 3, -4, 5, -6, 7, -8}, {13, -12, 13, -14, 9, -8, 9, -10}, 4},
+    {"11100000", 1, {1, -2, 3, -4, 5, -6, 7, -8}, {5, -6, 7, -6, 1, -2, 3, -4}, 4},
 };
 
 static void run_frame(const struct frame *f) {
@@ -499,6 +515,17 @@ static void all_tried(void) {
     if (!check_seen[0] || !check_seen[1]) stop("a frozen check not tried");
 }
 
+/* A longer run has cut every kind at every size at which a node has it, and gone below it where there are children. */
+static void all_kinds_tried(void) {
+    static const int least_stage[REF_KINDS] = {0, 0, 1, 2, 2, 3, 3, 3};
+    for (int kind = 0; kind < REF_KINDS; kind++)
+        for (int n = 0; n <= REF_MAX_STAGE; n++) {
+            int exists = n >= least_stage[kind];
+            if ((kind_seen[1][kind][n] > 0) != exists) stop("a kind not cut at a size, or not one of that size");
+            if ((kind_seen[0][kind][n] > 0) != (exists && n > 0)) stop("a kind not gone below at a size");
+        }
+}
+
 int main(int argc, char **argv) {
     static void (*const run[CALLS])(struct random *) = {samples_case, encode_case,     transform_case,
                                                         plan_case,    check_plan_case, decode_case};
@@ -514,6 +541,7 @@ int main(int argc, char **argv) {
     }
     report();
     if (cases >= 5000) all_tried();
+    if (cases >= 50000) all_kinds_tried();
     printf("test: ok, seed %" PRIu64 ", %" PRIu64 " cases\n", seed, cases);
     return 0;
 }
