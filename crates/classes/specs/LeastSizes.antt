@@ -25,6 +25,10 @@ parity (x ∷ xs) = differ (negative x) (parity xs)
 abbrev pub gatherOf : List ℤ → Gathered
 gatherOf l = record { least = least l; next = next l; neg = parity l }
 
+-- what is gathered of a class and one number more
+abbrev pub withValue : Gathered → ℤ → Gathered
+withValue g z = record { least = min (natAbs z) (g .least); next = min (g .next) (max (natAbs z) (g .least)); neg = differ (negative z) (g .neg) }
+
 -- what is gathered of a class
 abbrev pub gatherClass : ℕ → List ℤ → ℕ → Gathered
 gatherClass p l c = gatherOf (strided p c l)

@@ -15,18 +15,16 @@ ghost use lib.ListN.{length, drop};
 ghost use Rattle.model.specs.Soft.{mark, negative};
 ghost use Rattle.words.specs.Words.{Word, word, write, Words, Holds};
 ghost use Rattle.classes.specs.Sums.{Period, strided, sizes, sumOf, totalsOf};
-ghost use Rattle.classes.specs.LeastSizes.{least, next, parity, gatherClass, gatherAll, byTurns};
+ghost use Rattle.classes.specs.LeastSizes.{least, next, parity, withValue, gatherClass, gatherAll, byTurns};
 ghost use Rattle.classes.specs.Folds.{fourList, keepSign, lowAt, highAt};
 
-// The smaller of two sizes.
-pub fn min_size(a: u32, b: u32) -> u32
+fn min_size(a: u32, b: u32) -> u32
     ensures { λ r. ⌜ r ≡ min a b ⌝ }
 {
     if a < b { a } else { b }
 }
 
-// The larger of two sizes.
-pub fn max_size(a: u32, b: u32) -> u32
+fn max_size(a: u32, b: u32) -> u32
     ensures { λ r. ⌜ r ≡ max a b ⌝ }
 {
     if a < b { b } else { a }
@@ -99,29 +97,37 @@ pub struct Gathered {
     pub neg: bool,
 }
 
+// What is gathered of a class and one word more.
+pub fn with_value(g: Gathered, z: i32) -> Gathered
+    requires { ⌜ Word z ⌝ }
+    ensures { λ r. ⌜ r ≡ withValue g z ⌝ }
+{
+    let s = size_word(z);
+    let neg = g.neg;
+    Gathered {
+        least: min_size(s, g.least),
+        next: min_size(g.next, max_size(s, g.least)),
+        neg: (z < 0) != neg,
+    }
+}
+
 // The two least sizes and the parity of the signs, over the places c, c + p, ..
 fn gather(l: &[i32], p: usize, c: usize) -> Gathered
     requires { ⌜ (0 < p) × (p ≤ 4) ⌝ }
     requires { ⌜ ((k : ℕ) → Word (word (now l) k)) ⌝ }
     ensures { λ r. ⌜ r ≡ gatherClass p (now (l .entry)) c ⌝ }
 {
-    let mut m1 = MARK_SIZE;
-    let mut m2 = MARK_SIZE;
-    let mut neg = false;
+    let mut g = Gathered {
+        least: MARK_SIZE,
+        next: MARK_SIZE,
+        neg: false,
+    };
     let mut i = c;
     while i < l.len() {
-        let x = l[i];
-        let s = size_word(x);
-        m2 = min_size(m2, max_size(s, m1));
-        m1 = min_size(s, m1);
-        neg = (x < 0) != neg;
+        g = with_value(g, l[i]);
         i += p;
     }
-    Gathered {
-        least: m1,
-        next: m2,
-        neg,
-    }
+    g
 }
 
 // What the places 0, 1, 2 and 3 modulo 4 leave their values out of: what is gathered of the place's class, or of more.

@@ -1,12 +1,13 @@
 -- What the three other of four classes add to what was gathered over a class. Assumes nothing.
 use mathlib.Core.Bool.{cond}
-use Prim.Native.Nat.{ℕ, _+_, _≤_, min, max}
+use Prim.Native.Nat.{ℕ, _+_, _≤_}
 use lib.IntN.{ℤ, natAbs, _+ℤ_}
 use lib.Dec.{eqb}
-use Rattle.model.specs.Soft.{mark, negative, signed, differ, boxℤ}
+use Rattle.model.specs.Soft.{mark, signed, boxℤ}
 use Rattle.classes.specs.declared.Totals.{Totals}
 use Rattle.classes.specs.declared.Gathered.{Gathered}
 use Rattle.classes.specs.declared.ByPlace.{ByPlace}
+use Rattle.classes.specs.LeastSizes.{withValue}
 
 -- the box and the sum of three numbers
 abbrev pub boxThree : ℤ → ℤ → ℤ → ℤ
@@ -25,10 +26,6 @@ joinTotals t = joinFour (t .at0) (t .at1) (t .at2) (t .at3)
 -- box over a class
 abbrev pub boxOf : Gathered → ℤ
 boxOf g = signed (g .neg) (g .least)
-
--- what is gathered of a class and one number more
-abbrev pub withValue : Gathered → ℤ → Gathered
-withValue g z = record { least = min (natAbs z) (g .least); next = min (g .next) (max (natAbs z) (g .least)); neg = differ (negative z) (g .neg) }
 
 -- each of four classes with the sum of the three others' boxes
 abbrev pub joinBoxes : ByPlace → ByPlace

@@ -3,20 +3,18 @@
 use classes::ByPlace;
 use classes::Gathered;
 use classes::Totals;
-use classes::max_size;
-use classes::min_size;
+use classes::with_value;
 use extrinsic::with_sign;
 use words::MARK_SIZE;
 use words::box_words;
-use words::size_word;
 ghost use mathlib.Core.Path.{_≡_};
 ghost use Prim.Native.Nat.{ℕ, _+_, _%_, _≤_};
 ghost use lib.IntN.{natAbs, _+ℤ_};
 ghost use lib.ListN.{length};
 ghost use Rattle.model.specs.Soft.{mark};
 ghost use Rattle.words.specs.Words.{Word, word};
-ghost use Rattle.classes.specs.LeastSizes.{gatherAll};
-ghost use Rattle.joined.specs.Joins.{boxThree, sumThree, joinFour, boxOf, withValue, joinBoxes, totalsBy, Room, RoomTotals, RoomBoxes};
+ghost use Rattle.classes.specs.LeastSizes.{withValue, gatherAll};
+ghost use Rattle.joined.specs.Joins.{boxThree, sumThree, joinFour, boxOf, joinBoxes, totalsBy, Room, RoomTotals, RoomBoxes};
 
 // The box of three words, which are not the mark.
 fn box_three(a: i32, b: i32, c: i32) -> i32
@@ -73,20 +71,6 @@ fn box_of(g: Gathered) -> i32
     ensures { λ r. ⌜ r ≡ boxOf g ⌝ }
 {
     with_sign(g.neg, g.least as i32)
-}
-
-// What is gathered of a class and one word more.
-fn with_value(g: Gathered, z: i32) -> Gathered
-    requires { ⌜ Word z ⌝ }
-    ensures { λ r. ⌜ r ≡ withValue g z ⌝ }
-{
-    let s = size_word(z);
-    let neg = g.neg;
-    Gathered {
-        least: min_size(s, g.least),
-        next: min_size(g.next, max_size(s, g.least)),
-        neg: (z < 0) != neg,
-    }
 }
 
 // What is gathered of a class, with the sum of three other classes' boxes.

@@ -17,9 +17,9 @@ use Rattle.model.proofs.Bounds.{abs-signed, abs-plus}
 use Rattle.words.specs.Words.{Word, word, four}
 use Rattle.classes.specs.declared.Gathered.{Gathered}
 use Rattle.classes.specs.Sums.{strided, sizes, sumOf}
-use Rattle.classes.specs.LeastSizes.{least, next, parity, gatherClass}
+use Rattle.classes.specs.LeastSizes.{least, next, parity, withValue, gatherClass}
 use Rattle.classes.proofs.Strided.{class-at, class-lt}
-use Rattle.joined.specs.Joins.{boxThree, sumThree, boxOf, withValue, Room}
+use Rattle.joined.specs.Joins.{boxThree, sumThree, boxOf, Room}
 use Rattle.joined.proofs.Sizes.{box-three-first, sum-three-sizes}
 use Rattle.extrinsic.specs.Values.{leaveOut}
 use Rattle.messages.proofs.Without.{without, abs-sumZ, parity-without, least-without, least-at}

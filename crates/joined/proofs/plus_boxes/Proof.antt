@@ -7,7 +7,8 @@ use mir.Syntax.{w32}
 use Rattle.model.proofs.Bounds.{abs-signed}
 use Rattle.words.specs.Words.{Word}
 use Rattle.words.proofs.Signed.{back}
-use Rattle.joined.specs.Joins.{boxOf, sumThree, withValue}
+use Rattle.joined.specs.Joins.{boxOf, sumThree}
+use Rattle.classes.specs.LeastSizes.{withValue}
 use Rattle.joined.proofs.Sizes.{sum-three-sizes}
 use Rattle.joined.proofs.plus_boxes.Statement.{statement}
 use Rattle.joined.proofs.plus_boxes.Tie as tie

@@ -1,4 +1,4 @@
--- `joined::with_value` meets its contract: a turn of the loop that gathers. Assumes nothing.
+-- `classes::with_value` meets its contract: a turn of the loop that gathers. Assumes nothing.
 use mathlib.Core.Path.{_∙_, ap, subst, sym}
 use Prim.Native.Nat.{ℕ, min, max}
 use lib.IntN.{natAbs, pos}
@@ -12,8 +12,8 @@ use Rattle.model.specs.Soft.{negative, differ}
 use Rattle.words.specs.Words.{Word}
 use Rattle.words.proofs.Signed.{ltZ-zero}
 use Rattle.words.proofs.Laws.{differ-test}
-use Rattle.joined.proofs.with_value.Statement.{statement}
-use Rattle.joined.proofs.with_value.Tie as tie
+use Rattle.classes.proofs.with_value.Statement.{statement}
+use Rattle.classes.proofs.with_value.Tie as tie
 
 returns : tie.Need-returns
 returns c =
