@@ -5,21 +5,14 @@ use classes::Totals;
 use words::size_word;
 use words::store_four;
 use words::sub_words;
+use words::with_sign;
 ghost use mathlib.Core.Path.{_≡_};
 ghost use mathlib.Core.Bool.{cond};
 ghost use Prim.Native.Nat.{ℕ, _+_, _%_, _<_, _≤_};
-ghost use lib.IntN.{negℤ, _-ℤ_};
+ghost use lib.IntN.{_-ℤ_};
 ghost use lib.ListN.{length};
 ghost use Rattle.words.specs.Words.{Word, word, write, Words};
 ghost use Rattle.extrinsic.specs.Values.{Sizes, leaveOut, totalAt, gatheredAt};
-
-// -m if neg, else m
-pub fn with_sign(neg: bool, m: i32) -> i32
-    requires { ⌜ Word m ⌝ }
-    ensures { λ r. ⌜ r ≡ cond neg (negℤ m) m ⌝ }
-{
-    if neg { -m } else { m }
-}
 
 fn pick_size(b: bool, x: u32, y: u32) -> u32
     ensures { λ r. ⌜ r ≡ cond b x y ⌝ }

@@ -3,11 +3,17 @@ use mathlib.Core.Logic.{_⊎_}
 use mathlib.Core.List.{List}
 use Prim.Native.Nat.{ℕ, _+_, _≤_, _<_}
 use lib.IntN.{ℤ}
-use Rattle.words.specs.Words.{boxWord, addWord, word, write, Words, Added, Finite, Holds}
+use lib.ListN.{length}
+use Rattle.words.specs.Words.{boxWord, addWord, Word, word, write, Words, Added, Finite, Holds}
 
 -- the n words from a and the n words from b share no word
 abbrev pub Apart : ℕ → ℕ → ℕ → Type 0
 Apart n a b = (a + n ≤ b) ⊎ (b + n ≤ a)
+
+-- the h words from d on are stored, and the h words from a, from b and from c on are read, none of which is stored
+pub record Sources (w : List ℤ) (d a b c h : ℕ) : Type 0 where
+  pub fit : (d + h ≤ length w) × (a + h ≤ length w) × (b + h ≤ length w) × (c + h ≤ length w)
+  pub apart : Apart h d a × Apart h d b × Apart h d c
 
 -- ---- what is stored for place k: a box, a sum, and one inside the other
 abbrev pub boxAt : List ℤ → ℕ → ℕ → ℕ → ℤ
@@ -25,6 +31,13 @@ plusBox w a b c k = addWord (boxAt w a b k) (word w (c + k))
 abbrev pub plusFront : List ℤ → ℕ → ℕ → ℤ
 plusFront w d k = addWord (word w (d + k)) (word w k)
 
+-- the same where one list is a part of its own
+abbrev pub leftAt : (w second : List ℤ) → (a c k : ℕ) → ℤ
+leftAt w second a c k = boxWord (word w (a + k)) (addWord (word second k) (word w (c + k)))
+
+abbrev pub rightAt : (w second : List ℤ) → (a c k : ℕ) → ℤ
+rightAt w second a c k = addWord (boxAt w a c k) (word second k)
+
 -- ---- what the sums of h places require
 abbrev pub Sums : List ℤ → ℕ → ℕ → ℕ → Type 0
 Sums w a b h = (k : ℕ) → k < h → Added (word w (a + k)) (word w (b + k))
@@ -37,6 +50,18 @@ FiniteSums w a b h = (k : ℕ) → k < h → Finite (word w (a + k)) (word w (b 
 
 abbrev pub FiniteBoxSums : List ℤ → ℕ → ℕ → ℕ → ℕ → Type 0
 FiniteBoxSums w a b c h = (k : ℕ) → k < h → Finite (boxAt w a b k) (word w (c + k))
+
+-- ---- what one place requires, where one list is a part of its own: it is there, and what is boxed, and each sum, is a word
+pub record LeftAt (w second : List ℤ) (a c k : ℕ) : Type 0 where
+  pub there : (a + k < length w) × (c + k < length w) × (k < length second)
+  pub first : Word (word w (a + k))
+  pub sum : Added (word second k) (word w (c + k))
+
+pub record RightAt (w second : List ℤ) (a c k : ℕ) : Type 0 where
+  pub there : (a + k < length w) × (c + k < length w) × (k < length second)
+  pub first : Word (word w (a + k))
+  pub message : Word (word w (c + k))
+  pub sum : Finite (boxAt w a c k) (word second k)
 
 -- ---- the message of an uncut node of size 2h. Its incoming list L is in the 2h words from x on, its left child's message in the h words from l on and its
 -- right child's in the h words behind these; the message goes into the 2h words from m on

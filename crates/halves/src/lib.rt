@@ -2,19 +2,19 @@
 use words::add_finite;
 use words::add_words;
 use words::box_words;
+use words::store_four;
 ghost use mathlib.Core.Path.{_≡_};
 ghost use mathlib.Core.Bool.{true, false, cond};
-ghost use Prim.Native.Nat.{ℕ, _+_, _<_, _≤_};
+ghost use Prim.Native.Nat.{ℕ, _+_, _%_, _<_, _≤_};
 ghost use lib.IntN.{pos};
 ghost use lib.ListN.{length};
 ghost use Rattle.model.specs.Soft.{mark};
 ghost use Rattle.words.specs.Words.{word, write, Holds, Words, Finite};
-ghost use Rattle.halves.specs.Halves.{Apart, boxAt, plusAt, boxPlus, plusBox, plusFront, FiniteSums, Sums, FiniteBoxSums};
+ghost use Rattle.halves.specs.Halves.{Apart, Sources, boxAt, plusAt, boxPlus, plusBox, plusFront, leftAt, rightAt, FiniteSums, Sums, FiniteBoxSums, LeftAt, RightAt};
 
 // w[d + k] = box(w[a + k], w[b + k] + w[c + k])
 fn box_plus(w: &mut [i32], d: usize, a: usize, b: usize, c: usize, h: usize)
-    requires { ⌜ (d + h ≤ length (now w)) × (a + h ≤ length (now w)) × (b + h ≤ length (now w)) × (c + h ≤ length (now w)) ⌝ }
-    requires { ⌜ Apart h d a × Apart h d b × Apart h d c ⌝ }
+    requires { ⌜ Sources (now w) d a b c h ⌝ }
     requires { ⌜ Words (now w) a h × Sums (now w) b c h ⌝ }
     ensures { λ _. ⌜ now (w .exit) ≡ write (now (w .entry)) d h (boxPlus (now (w .entry)) a b c) ⌝ }
 {
@@ -78,6 +78,66 @@ fn plus_box(w: &mut [i32], d: usize, a: usize, b: usize, c: usize, h: usize)
     add_front(&mut w[c..], far, h);
 }
 
+// The word at k of the left child's incoming list: box(w[a + k], second[k] + w[c + k]). The second half of the node's list is handed on as a part.
+fn left_word(w: &[i32], second: &[i32], a: usize, c: usize, k: usize) -> i32
+    requires { ⌜ LeftAt (now w) (now second) a c k ⌝ }
+    ensures { λ r. ⌜ r ≡ leftAt (now (w .entry)) (now (second .entry)) a c k ⌝ }
+{
+    let first = w[a + k];
+    let message = w[c + k];
+    let high = second[k];
+    box_words(first, add_words(high, message))
+}
+
+// The word at k of the right child's incoming list: box(w[a + k], w[c + k]) + second[k]
+fn right_word(w: &[i32], second: &[i32], a: usize, c: usize, k: usize) -> i32
+    requires { ⌜ RightAt (now w) (now second) a c k ⌝ }
+    ensures { λ r. ⌜ r ≡ rightAt (now (w .entry)) (now (second .entry)) a c k ⌝ }
+{
+    let first = w[a + k];
+    let message = w[c + k];
+    let high = second[k];
+    add_finite(box_words(first, message), high)
+}
+
+// `box_plus` by four places at once.
+fn left_fours(w: &mut [i32], d: usize, a: usize, b: usize, c: usize, h: usize)
+    requires { ⌜ Sources (now w) d a b c h × (h % 4 ≡ 0) ⌝ }
+    requires { ⌜ Words (now w) a h × Sums (now w) b c h ⌝ }
+    ensures { λ _. ⌜ now (w .exit) ≡ write (now (w .entry)) d h (boxPlus (now (w .entry)) a b c) ⌝ }
+{
+    let mut k = 0;
+    while k < h {
+        let all = &w[..];
+        let second = &all[b..];
+        let p = left_word(all, second, a, c, k);
+        let q = left_word(all, second, a, c, k + 1);
+        let r = left_word(all, second, a, c, k + 2);
+        let s = left_word(all, second, a, c, k + 3);
+        store_four(w, d + k, p, q, r, s);
+        k += 4;
+    }
+}
+
+// `plus_box` by four places at once.
+fn right_fours(w: &mut [i32], d: usize, a: usize, b: usize, c: usize, h: usize)
+    requires { ⌜ Sources (now w) d a b c h × (h % 4 ≡ 0) ⌝ }
+    requires { ⌜ Words (now w) a h × Words (now w) b h × FiniteBoxSums (now w) a b c h ⌝ }
+    ensures { λ _. ⌜ now (w .exit) ≡ write (now (w .entry)) d h (plusBox (now (w .entry)) a b c) ⌝ }
+{
+    let mut k = 0;
+    while k < h {
+        let all = &w[..];
+        let second = &all[c..];
+        let p = right_word(all, second, a, b, k);
+        let q = right_word(all, second, a, b, k + 1);
+        let r = right_word(all, second, a, b, k + 2);
+        let s = right_word(all, second, a, b, k + 3);
+        store_four(w, d + k, p, q, r, s);
+        k += 4;
+    }
+}
+
 // The incoming list of the left child, at c: the node's is at x, the right child's message at r. In the first sweep nothing stored is read: before it the
 // message of a right child of two positions or more is 0 by definition. A right leaf's may be certain then, but where the children are leaves both are
 // cut, and a cut leaf's incoming list is not made.
@@ -89,6 +149,8 @@ pub fn left_list(w: &mut [i32], first: bool, c: usize, x: usize, r: usize, h: us
     let y = x + h;
     if first {
         box_at(w, c, x, y, h);
+    } else if h % 4 == 0 {
+        left_fours(w, c, x, y, r, h);
     } else {
         box_plus(w, c, x, y, r, h);
     }
@@ -104,6 +166,8 @@ pub fn right_list(w: &mut [i32], certain: bool, c: usize, x: usize, l: usize, h:
     let y = x + h;
     if certain {
         plus_at(w, c, x, y, h);
+    } else if h % 4 == 0 {
+        right_fours(w, c, x, l, y, h);
     } else {
         plus_box(w, c, x, l, y, h);
     }

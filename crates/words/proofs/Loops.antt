@@ -8,7 +8,7 @@ use native.Mathlib.Omega.{arith}
 use lib.IntN.{ℤ, pos}
 use lib.ListN.{length, set, length-set}
 use Rattle.words.specs.Words.{word, write, four}
-use Rattle.words.proofs.Store.{store-more, store-both, store-both-next, source-both, four-next}
+use Rattle.words.proofs.Store.{store-more, store-next, store-both, store-both-next, source-both, four-next}
 
 -- k of h turns have stored f 0, f 1, .. from d on
 pub record Stored (w₀ : List ℤ) (d h : ℕ) (f : ℕ → ℤ) (k : ℕ) (w : List ℤ) : Type 0 where
@@ -23,6 +23,14 @@ none-stored = record { few = omega arith; words = refl; long = refl }
 module _ {w₀ w : List ℤ} {d h k : ℕ} {f : ℕ → ℤ} (s : Stored w₀ d h f k w) where
   pub one-stored : {v : ℤ} → k < h → v ≡ f k → Stored w₀ d h f (k + 1) (set w (d + k) v)
   one-stored lt e = record { few = omega arith; words = store-more (pos 0) w₀ w d k _ f (s .words) e; long = simp length-set (s .long) }
+
+  pub four-stored : {v : List ℤ} {p q r t : ℤ} → k + 4 ≤ h → v ≡ write w (d + k) 4 (four p q r t) → length v ≡ length w → (p ≡ f k) × (q ≡ f (k + 1)) × (r ≡ f (k + 2)) × (t ≡ f (k + 3))
+      → Stored w₀ d h f (k + 4) v
+  four-stored {p = p} {q = q} {r = r} {t = t} room e long is = record {
+    few = room;
+    words = e ∙ store-next (pos 0) w₀ w d k 4 f (four p q r t) (s .words) (four-next f k p q r t (is .0) (is .1) (is .2) (is .3));
+    long = long ∙ s .long;
+  }
 
   pub all-stored : h ≤ k → w ≡ write w₀ d h f
   all-stored le = s .words ∙ ap (λ (n : ℕ). write w₀ d n f) (le-antisymm (s .few) le)

@@ -5,8 +5,8 @@ use Prim.Native.Nat.{ℕ, zero, suc, _^_, _<_, min, zero-le}
 use native.Mathlib.Omega.{arith}
 use lib.IntN.{ℤ, pos, negsuc, negℤ, natAbs, _-ℤ_, +ℤ-idl}
 use lib.Signed.{mag, ltZ}
-use lib.Dec.{T, ltb}
-use borrow.Author.Tests.{ltb-true, ltb-false, le-ltb}
+use lib.Dec.{T, ltb, leb·suc-suc}
+use borrow.Author.Tests.{ltb-true, ltb-false, lt-ltb, le-ltb}
 use mir.Syntax.{w16, w32}
 use mir.Val.{SFits, ofZ, toZ}
 use mir.Facts.{toZ-ofZ}
@@ -64,33 +64,44 @@ wide16 z h = rw (back16 h) (let g : mag z < 2 ^ 31 = omega arith in record { sfi
 pub back-wide : {z : ℤ} → mag z < 2 ^ 15 → toZ w32 (ofZ w32 (toZ w16 (ofZ w16 z))) ≡ z
 back-wide {z} h = toZ-ofZ (wide16 z h) ∙ back16 h
 
--- ---- box by the smaller and the larger of two words
-max-zero : (x y : ℕ) → ltZ (pos x) (negℤ (pos y)) ≡ false
-max-zero x zero = le-ltb x 0 zero-le
-max-zero x (suc y) = refl
+-- ---- box by the smaller of two words, both negated if their sum is negative
+sum-not : (x y : ℕ) → ltZ (pos x) (negℤ (pos y)) ≡ false
+sum-not x zero = le-ltb x 0 zero-le
+sum-not x (suc y) = refl
 
--- the larger of the smaller one and minus the larger one
-abbrev pub minMax : ℤ → ℤ → ℤ
-minMax low high = cond (ltZ low (negℤ high)) (negℤ high) low
+neg-before : (x y : ℕ) → ltZ (negℤ (pos x)) (pos (suc y)) ≡ true
+neg-before zero y = lt-ltb 0 (suc y) (omega arith)
+neg-before (suc x) y = refl
 
-opposite : (x y : ℕ) → minMax (negsuc y) (pos x) ≡ negℤ (pos (min x (suc y)))
-opposite zero y = ap (λ (n : ℕ). negℤ (pos n)) (let e : 0 ≡ min 0 (suc y) = omega arith in e)
-opposite (suc x) y = go (ltb x y) refl
-  where
-    go : (t : Bool) → ltb x y ≡ t → cond t (negsuc x) (negsuc y) ≡ negℤ (pos (min (suc x) (suc y)))
-    go true e = ap (λ (n : ℕ). negℤ (pos n)) (let f : suc x ≡ min (suc x) (suc y) = omega (arith, ltb-true x y e) in f)
-    go false e = ap (λ (n : ℕ). negℤ (pos n)) (let f : suc y ≡ min (suc x) (suc y) = omega (arith, ltb-false x y e) in f)
+-- the sum of words of different signs, by the sizes
+sum-less : (x y : ℕ) → ltZ (negsuc x) (negℤ (pos y)) ≡ ltb y (suc x)
+sum-less x zero = sym (lt-ltb 0 (suc x) (omega arith))
+sum-less x (suc y) = sym (leb·suc-suc (suc y) x)
 
-pub box-by : (a b : ℤ) → minMax (cond (ltZ a b) a b) (cond (ltZ a b) b a) ≡ signed (differ (negative a) (negative b)) (min (natAbs a) (natAbs b))
-box-by (pos a) (pos b) = go (ltb a b) refl
+smaller : (x y : ℕ) → cond (ltb x y) (pos x) (pos y) ≡ pos (min x y)
+smaller x y = go (ltb x y) refl
   where
-    go : (t : Bool) → ltb a b ≡ t → minMax (cond t (pos a) (pos b)) (cond t (pos b) (pos a)) ≡ pos (min a b)
-    go true e = rw (max-zero a b) (ap pos (omega (arith, ltb-true a b e)))
-    go false e = rw (max-zero b a) (ap pos (omega (arith, ltb-false a b e)))
-box-by (pos a) (negsuc b) = opposite a b
-box-by (negsuc a) (pos b) = opposite b a ∙ ap (λ (n : ℕ). negℤ (pos n)) (let e : min b (suc a) ≡ min (suc a) b = omega arith in e)
-box-by (negsuc a) (negsuc b) = go (ltb b a) refl
+    go : (t : Bool) → ltb x y ≡ t → cond t (pos x) (pos y) ≡ pos (min x y)
+    go true e = ap pos (omega (arith, ltb-true x y e))
+    go false e = ap pos (omega (arith, ltb-false x y e))
+
+abbrev minus : ℕ → ℤ
+minus n = negℤ (pos n)
+
+-- the smaller of two words, both negated if n
+abbrev turned : Bool → ℤ → ℤ → ℤ
+turned n a b = let x : ℤ = cond n (negℤ a) a in let y : ℤ = cond n (negℤ b) b in cond (ltZ x y) x y
+
+pub box-by : (a b : ℤ) → turned (ltZ a (negℤ b)) a b ≡ signed (differ (negative a) (negative b)) (min (natAbs a) (natAbs b))
+box-by (pos a) (pos b) = rw (sum-not a b) (smaller a b)
+box-by (pos a) (negsuc b) = go (ltb a (suc b)) refl
   where
-    go : (t : Bool) → ltb b a ≡ t → minMax (cond t (negsuc a) (negsuc b)) (cond t (negsuc b) (negsuc a)) ≡ pos (min (suc a) (suc b))
-    go true e = ap pos (let f : suc b ≡ min (suc a) (suc b) = omega (arith, ltb-true b a e) in f)
-    go false e = ap pos (let f : suc a ≡ min (suc a) (suc b) = omega (arith, ltb-false b a e) in f)
+    go : (n : Bool) → ltb a (suc b) ≡ n → turned n (pos a) (negsuc b) ≡ minus (min a (suc b))
+    go true e = rw (neg-before a b) (ap minus (let f : a ≡ min a (suc b) = omega (arith, ltb-true a (suc b) e) in f))
+    go false e = ap minus (let f : suc b ≡ min a (suc b) = omega (arith, ltb-false a (suc b) e) in f)
+box-by (negsuc a) (pos b) = rw (sum-less a b) (go (ltb b (suc a)) refl)
+  where
+    go : (n : Bool) → ltb b (suc a) ≡ n → turned n (negsuc a) (pos b) ≡ minus (min (suc a) b)
+    go true e = rw (sum-not (suc a) b) (ap minus (let f : b ≡ min (suc a) b = omega (arith, ltb-true b (suc a) e) in f))
+    go false e = ap minus (let f : suc a ≡ min (suc a) b = omega (arith, ltb-false b (suc a) e) in f)
+box-by (negsuc a) (negsuc b) = smaller (suc a) (suc b)

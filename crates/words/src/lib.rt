@@ -2,7 +2,7 @@
 ghost use mathlib.Core.Path.{_≡_};
 ghost use mathlib.Core.Bool.{cond};
 ghost use Prim.Native.Nat.{_+_, _<_, _≤_};
-ghost use lib.IntN.{pos, natAbs, _-ℤ_};
+ghost use lib.IntN.{pos, natAbs, negℤ, _-ℤ_};
 ghost use lib.Signed.{ltZ};
 ghost use lib.ListN.{length};
 ghost use Rattle.words.specs.Words.{boxWord, addWord, Word, Added, word, write, four, Finite};
@@ -42,16 +42,22 @@ pub fn size_word(a: i32) -> u32
     abs_word(a) as u32
 }
 
-// box of two words. The smaller of the two and the negated larger are the two candidates, and box is the larger of these; the mark is larger than every
-// finite size, so box(a, ∞) = a needs no test.
+// -m if neg, else m
+pub fn with_sign(neg: bool, m: i32) -> i32
+    requires { ⌜ Word m ⌝ }
+    ensures { λ r. ⌜ r ≡ cond neg (negℤ m) m ⌝ }
+{
+    if neg { -m } else { m }
+}
+
+// box of two words: the smaller of the two, both negated if their sum is negative. The mark is larger than every finite size, so box(a, ∞) = a needs no test.
 pub fn box_words(a: i32, b: i32) -> i32
     requires { ⌜ Word a ⌝ }
     requires { ⌜ Word b ⌝ }
     ensures { λ r. ⌜ r ≡ boxWord a b ⌝ }
 {
-    let low = min_word(a, b);
-    let high = max_word(a, b);
-    max_word(low, -high)
+    let neg = a < -b;
+    min_word(with_sign(neg, a), with_sign(neg, b))
 }
 
 // x if b, else y

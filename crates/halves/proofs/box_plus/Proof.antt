@@ -19,24 +19,26 @@ abbrev μ-loop : tie.MeasureT-loop
 add-words-requires : tie.Need-add-words-requires Inv-loop μ-loop
 add-words-requires c κs =
     let turn = c .before .before .before in
-    let pre = turn .before .before .pre .1 in
+    let pre = turn .before .before .pre in
+    let apart = pre .0 .apart in
     let lt = turn .loop-test .taken in
     let read = source (turn .before .loop .inv) lt in
-    rw (read _ (pre .0 .1) (c .before .add-words-arg .given), read _ (pre .0 .2) (c .add-words-arg2 .given)) (pre .1 .1 _ lt)
+    rw (read _ (apart .1) (c .before .add-words-arg .given), read _ (apart .2) (c .add-words-arg2 .given)) (pre .1 .1 _ lt)
 
 box-words-requires : tie.Need-box-words-requires Inv-loop μ-loop
 box-words-requires c κs =
     let turn = c .before .before .before .before in
-    let pre = turn .before .before .pre .1 in
+    let pre = turn .before .before .pre in
+    let apart = pre .0 .apart in
     let lt = turn .loop-test .taken in
     let read = source (turn .before .loop .inv) lt in
-    let sum = back-of addWord (c .add-words .ok) (c .add-words .ensures) (read _ (pre .0 .1) (c .before .before .add-words-arg .given)) (read _ (pre .0 .2) (c .before .add-words-arg2 .given)) in
-    (rw (read _ (pre .0 .0) (c .before .before .before .box-words-arg .given)) (pre .1 .0 _ lt), subst Word (sym sum) (pre .1 .1 _ lt .1))
+    let sum = back-of addWord (c .add-words .ok) (c .add-words .ensures) (read _ (apart .1) (c .before .before .add-words-arg .given)) (read _ (apart .2) (c .before .add-words-arg2 .given)) in
+    (rw (read _ (apart .0) (c .before .before .before .box-words-arg .given)) (pre .1 .0 _ lt), subst Word (sym sum) (pre .1 .1 _ lt .1))
 
 loop-again : tie.Need-loop-again Inv-loop μ-loop
 loop-again c =
     let turn = c .before .before .before .before .before in
-    let apart = turn .before .before .pre .1 .0 in
+    let apart = turn .before .before .pre .0 .apart in
     let lt = turn .loop-test .taken in
     let read = source (turn .before .loop .inv) lt in
     one-stored (turn .before .loop .inv) lt

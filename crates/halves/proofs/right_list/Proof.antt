@@ -1,4 +1,4 @@
--- `halves::right_list` meets its contract: the list is stored by `plus_box`, or by `plus_at` where the box is with certain.
+-- `halves::right_list` meets its contract: the list is stored by fours or by `plus_box`, or by `plus_at` where the box is with certain.
 -- Assumes nothing.
 use mathlib.Core.Path.{sym, _∙_, subst}
 use mathlib.Core.Logic.{inr}
@@ -22,9 +22,14 @@ plus-at-requires c κs =
       ((inr (omega arith), inr (omega arith)), λ k lt. subst (λ (z : ℤ). Finite z (word (a .w .now) (a .x + a .h + k))) (box-certain (a .w .now) (a .x) (a .l) k (certain k lt) (start .pre .1 .0 .0 k lt)) (start .pre .1 .0 .2 k lt)),
     )
 
+right-fours-requires : tie.Need-right-fours-requires
+right-fours-requires c κs =
+    let start = c .before .before .before in
+    ((record { fit = (omega arith, omega arith, omega arith, omega arith); apart = (inr (omega arith), inr (omega arith), inr (omega arith)) }, c .before .if2 .taken), start .pre .1 .0)
+
 plus-box-requires : tie.Need-plus-box-requires
 plus-box-requires c κs =
-    let start = c .before .before in
+    let start = c .before .before .before in
     ((omega arith, omega arith, omega arith, omega arith), ((inr (omega arith), inr (omega arith)), start .pre .1 .0))
 
 returns : tie.Need-returns
@@ -36,9 +41,17 @@ returns c =
     ∙ write-ext (pos 0) (a .w .now) (a .c) (a .h) (plusAt (a .w .now) (a .x) (a .x + a .h)) (plusBox (a .w .now) (a .x) (a .l) (a .x + a .h))
     (λ k lt. sym (plus-box-certain (a .w .now) (a .x) (a .l) (a .x + a .h) k (certain k lt) (start .pre .1 .0 .0 k lt)))
 
-returns-2 : tie.Need-returns-2
-returns-2 c = c .before .plus-box .ensures
-
 pub right-list-spec : {M : Type 1} → statement M
 right-list-spec =
-    tie.close (tie.spec (λ c. search needs) plus-at-requires plus-box-requires (λ c. search needs) returns (λ c. search needs) returns-2)
+    tie.close
+    (tie.spec
+    (λ c. search needs)
+    plus-at-requires
+    right-fours-requires
+    plus-box-requires
+    (λ c. search needs)
+    returns
+    (λ c. search needs)
+    (λ c. c .before .right-fours .ensures)
+    (λ c. search needs)
+    (λ c. c .before .plus-box .ensures))

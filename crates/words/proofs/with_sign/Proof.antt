@@ -1,9 +1,9 @@
--- `extrinsic::with_sign` meets its contract: its test is the definition's. Assumes nothing.
+-- `words::with_sign` meets its contract: its test is the definition's. Assumes nothing.
 use mir.Facts.{toZ-ofZ}
 use lib.IntN.{negℤ, +ℤ-idl}
 use Rattle.words.proofs.Signed.{neg-fits}
-use Rattle.extrinsic.proofs.with_sign.Statement.{statement}
-use Rattle.extrinsic.proofs.with_sign.Tie as tie
+use Rattle.words.proofs.with_sign.Statement.{statement}
+use Rattle.words.proofs.with_sign.Tie as tie
 
 sub-result : tie.Need-sub-result
 sub-result c = rw (toZ-ofZ (c .before .fits .m)) (neg-fits (c .before .args .m) (c .before .pre))
