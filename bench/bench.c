@@ -33,10 +33,15 @@ static const library libraries[LIBRARIES] = {
 
 typedef enum { DECODE, ENCODE, PLAN, SAMPLES, TRANSFORM } routine;
 
+// The planner's plan; one near the leaves, which cuts every node of 2 positions that is of a kind; and the one that cuts
+// the leaves.
+typedef enum { PLANNERS, PAIRS, LEAVES, PLANS } plan_choice;
+static const char *const plan_names[PLANS] = {"planner's", "pairs", "leaf-only"};
+
 typedef struct {
     routine what;
     size_t n, k, sweeps;
-    int leaf_only;
+    plan_choice plan;
 } test_case;
 
 // What the calls read.
@@ -60,12 +65,22 @@ static void fail(const test_case *c, const char *what) {
     exit(1);
 }
 
+// A node of 2 positions is of a kind unless only its second is frozen.
+static void cut_pairs(size_t n) {
+    for (size_t i = 0; i < n; i += 2) {
+        if (mask[i + 1] && !mask[i]) continue;
+        plan[(n + i) / 2] = 1;
+        plan[n + i] = plan[n + i + 1] = 0;
+    }
+}
+
 static void make_plan(const test_case *c) {
     uint32_t counts[KINDS];
     if (plain_plan(mask, c->n, plan, 2 * c->n, counts) & 255) fail(c, "no plan");
-    if (!c->leaf_only) return;
+    if (c->plan == PLANNERS) return;
     memset(plan, 0, c->n);
     memset(plan + c->n, 1, c->n);
+    if (c->plan == PAIRS) cut_pairs(c->n);
 }
 
 // The same frames for each case of a code: random payloads at an Eb/N0 of 2 dB.
@@ -199,10 +214,11 @@ enum { CODES = sizeof codes / sizeof *codes };
 static void decode_table(void) {
     heading("Decoder", "code       plan     sweeps");
     if (!counting) puts("   proved/plain  proved/SSE2");
-    for (int i = 0; i < 4 * CODES; i++) {
-        test_case c = {DECODE, codes[i / 4][0], codes[i / 4][1], i % 2 ? 4 : 1, i / 2 % 2};
+    for (int i = 0; i < 2 * PLANS * CODES; i++) {
+        const size_t *code = codes[i / (2 * PLANS)];
+        test_case c = {DECODE, code[0], code[1], i % 2 ? 4 : 1, (plan_choice)(i / 2 % PLANS)};
         double mean[LIBRARIES];
-        if (!counting) printf("(%4zu,%3zu) %-10s %4zu", c.n, c.k, c.leaf_only ? "leaf-only" : "planner's", c.sweeps);
+        if (!counting) printf("(%4zu,%3zu) %-10s %4zu", c.n, c.k, plan_names[c.plan], c.sweeps);
         run_case(&c, mean);
         if (!counting)
             printf("   %12.2f %12.2f\n", mean[PROVED] / mean[PLAIN], mean[PROVED] / mean[SSE2]), fflush(stdout);
@@ -214,7 +230,7 @@ static void other_table(void) {
     heading("Encoder, planner and front end", "routine    code");
     if (!counting) puts("   proved/plain");
     for (int i = 0; i < 3 * CODES; i++) {
-        test_case c = {(routine)(ENCODE + i / CODES), codes[i % CODES][0], codes[i % CODES][1], 0, 0};
+        test_case c = {(routine)(ENCODE + i / CODES), codes[i % CODES][0], codes[i % CODES][1], 0, PLANNERS};
         double mean[LIBRARIES];
         if (!counting) printf("%-10s (%4zu,%3zu)%5s", names[c.what], c.n, c.k, "");
         run_case(&c, mean);
@@ -228,7 +244,7 @@ static void word_table(void) {
     if (!counting) puts("   proved/plain");
     for (int i = 0; i < 2 * MAX_STAGE; i++) {
         size_t n = (size_t)2 << i % MAX_STAGE;
-        test_case c = {i < MAX_STAGE ? TRANSFORM : ENCODE, n, n / 2, 0, 0};
+        test_case c = {i < MAX_STAGE ? TRANSFORM : ENCODE, n, n / 2, 0, PLANNERS};
         double mean[LIBRARIES];
         if (!counting) printf("%-10s %4zu%11s", names[i / MAX_STAGE], n, "");
         run_case(&c, mean);
@@ -241,7 +257,7 @@ static void growth_table(void) {
     if (!counting) puts("   ns / (N log2 N): proved, plain, SSE2");
     for (int stage = 1; stage <= MAX_STAGE; stage++) {
         size_t n = (size_t)1 << stage;
-        test_case c = {DECODE, n, n / 2, 1, 0};
+        test_case c = {DECODE, n, n / 2, 1, PLANNERS};
         double mean[LIBRARIES], steps = (double)n * stage;
         if (!counting) printf("%-26zu", n);
         run_case(&c, mean);

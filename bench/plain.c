@@ -39,10 +39,10 @@ static int kind_of(const uint8_t *mask, size_t size) { return kind_of_part(mask,
 static int known_kind(const uint8_t *mask, size_t size) {
     if (mask[size - 1]) return RATE_0;
     if (!mask[0]) return RATE_1;
-    if (mask[size - 2]) return REP;
     if (!mask[1]) return SPC;
-    if (mask[size - 3]) return TYPE_I;
+    if (mask[size - 2]) return REP;
     if (!mask[2]) return TYPE_III;
+    if (mask[size - 3]) return TYPE_I;
     return mask[size - 4] ? TYPE_II : TYPE_IV;
 }
 
@@ -202,10 +202,10 @@ static void cut_message(const uint8_t *mask, const int32_t *list, int32_t *messa
     switch (known_kind(mask, size)) {
     case RATE_0: fill(message, size, CERTAIN); break;
     case RATE_1: fill(message, size, 0); break;
-    case REP: rep_message(list, message, size, 1); break;
     case SPC: spc_message(list, message, size, 1); break;
-    case TYPE_I: rep_message(list, message, size, 2); break;
+    case REP: rep_message(list, message, size, 1); break;
     case TYPE_III: spc_message(list, message, size, 2); break;
+    case TYPE_I: rep_message(list, message, size, 2); break;
     case TYPE_II: type_ii_message(list, message, size); break;
     case TYPE_IV: type_iv_message(list, message, size); break;
     }

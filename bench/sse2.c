@@ -178,10 +178,10 @@ enum {
     NODE_RATE_0,
     NODE_RATE_1,
     CUT_RATE_0,
-    CUT_REP,
     CUT_SPC,
-    CUT_TYPE_I,
+    CUT_REP,
     CUT_TYPE_III,
+    CUT_TYPE_I,
     CUT_TYPE_II,
     CUT_TYPE_IV,
     CUT_PAIR
@@ -226,7 +226,7 @@ static void build_cut(builder *b, int kind, size_t size, size_t list, size_t mes
     if (kind == NO_KIND) b->fault = 1;
     else if (kind == RATE_1) b->zeros[b->zero_count++] = (step){0, (uint16_t)size, 0, (uint16_t)message};
     else if (kind == RATE_0) add_step(b, CUT_RATE_0, size, list, message);
-    else add_step(b, size == 2 ? CUT_PAIR : CUT_REP + kind - REP, size, list, message);
+    else add_step(b, size == 2 ? CUT_PAIR : CUT_SPC + kind - SPC, size, list, message);
     b->cycles += cut_cycles(kind);
 }
 
@@ -291,10 +291,10 @@ static void large_step(int what, const int32_t *list, int32_t *children, int32_t
 static void cut_step(int what, const int32_t *list, int32_t *message, size_t size) {
     switch (what) {
     case CUT_RATE_0: fill(message, size, CERTAIN); break;
-    case CUT_REP: rep_message(list, message, size, 1); break;
     case CUT_SPC: spc_message(list, message, size, 1); break;
-    case CUT_TYPE_I: rep_message(list, message, size, 2); break;
+    case CUT_REP: rep_message(list, message, size, 1); break;
     case CUT_TYPE_III: spc_message(list, message, size, 2); break;
+    case CUT_TYPE_I: rep_message(list, message, size, 2); break;
     case CUT_TYPE_II: type_ii_message(list, message, size); break;
     case CUT_TYPE_IV: type_iv_message(list, message, size); break;
     case CUT_PAIR:

@@ -77,9 +77,9 @@ def digits_of(bits):
 # ---- the planner's plan and its cycles
 
 def table(m):
-    """The kinds of document 01 and of request No. 3 in order: name, least size, and the pattern at size m."""
-    return [('rate-0', 1, '1' * m), ('rate-1', 1, '0' * m), ('REP', 2, '1' * (m - 1) + '0'), ('SPC', 2, '1' + '0' * (m - 1)),
-            ('type I', 4, '1' * (m - 2) + '00'), ('type III', 4, '11' + '0' * (m - 2)),
+    """The kinds of document 01 and of request No. 3 in request No. 4's order: name, least size, and the pattern at size m."""
+    return [('rate-0', 1, '1' * m), ('rate-1', 1, '0' * m), ('SPC', 2, '1' + '0' * (m - 1)), ('REP', 2, '1' * (m - 1) + '0'),
+            ('type III', 4, '11' + '0' * (m - 2)), ('type I', 4, '1' * (m - 2) + '00'),
             ('type II', 8, '1' * (m - 3) + '000'), ('type IV', 8, '111' + '0' * (m - 3))]
 
 

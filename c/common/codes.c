@@ -25,7 +25,7 @@ void code_for_erasures(uint8_t *mask, size_t N, size_t K, double rate) {
 
 /* One kind's pattern, from a size at which it exists. */
 static void kind_pattern(uint8_t *mask, size_t m, int kind) {
-    size_t run[REF_KINDS] = {m, 0, m - 1, 1, m - 2, 2, m - 3, 3};
+    size_t run[REF_KINDS] = {m, 0, 1, m - 1, 2, m - 2, m - 3, 3};
     for (size_t i = 0; i < m; i++) mask[i] = i < run[kind];
 }
 

@@ -21,7 +21,7 @@ size_t ref_unfrozen(const uint8_t *mask, size_t N);
 /* word becomes u times the polar matrix; both have N bytes. */
 void ref_transform(const uint8_t *u, uint8_t *word, size_t N);
 
-/* The kind of a node with m positions of the mask, in table order; -1 for none. */
+/* The kind of a node with m positions of the mask, in request No. 4's order; -1 for none. */
 int ref_kind(const uint8_t *mask, size_t m);
 
 /* The kind of node p of the tree over a mask of N positions. */

@@ -57,14 +57,14 @@ extern "C" {
 /* Marks of received positions. */
 enum { RUZNAVO_SENT = 0, RUZNAVO_PUNCTURED = 1, RUZNAVO_SHORTENED = 2 };
 
-/* Places of the planner's counts. */
+/* Places of the planner's counts. A node that two kinds fit counts as the upper one: of 2 positions SPC, of 4 type III. */
 enum {
     RUZNAVO_RATE_0,   /* all frozen */
     RUZNAVO_RATE_1,   /* none frozen */
-    RUZNAVO_REP,      /* all frozen but the last */
     RUZNAVO_SPC,      /* only the first frozen */
-    RUZNAVO_TYPE_I,   /* all frozen but the last two */
+    RUZNAVO_REP,      /* all frozen but the last */
     RUZNAVO_TYPE_III, /* only the first two frozen */
+    RUZNAVO_TYPE_I,   /* all frozen but the last two */
     RUZNAVO_TYPE_II,  /* all frozen but the last three */
     RUZNAVO_TYPE_IV,  /* only the first three frozen */
     RUZNAVO_KINDS

@@ -472,6 +472,26 @@ static void run_frame(const struct frame *f) {
         stop("a frame's soft values");
 }
 
+/* The report's places by name: a plan with one cut, the root. Of 2 and 4 positions two kinds fit. */
+static void run_counts(void) {
+    static const struct {
+        const char *mask;
+        int place;
+    } one_cut[] = {{"11", RUZNAVO_RATE_0},         {"00", RUZNAVO_RATE_1},         {"10", RUZNAVO_SPC},
+                   {"1000", RUZNAVO_SPC},          {"1110", RUZNAVO_REP},          {"1100", RUZNAVO_TYPE_III},
+                   {"11000000", RUZNAVO_TYPE_III}, {"11111100", RUZNAVO_TYPE_I},   {"11111000", RUZNAVO_TYPE_II},
+                   {"11100000", RUZNAVO_TYPE_IV}};
+    for (size_t i = 0; i < sizeof one_cut / sizeof *one_cut; i++) {
+        uint8_t mask[8], plan[16];
+        uint32_t counts[RUZNAVO_KINDS];
+        size_t N = strlen(one_cut[i].mask);
+        for (size_t k = 0; k < N; k++) mask[k] = (uint8_t)(one_cut[i].mask[k] - '0');
+        if (ruznavo_number(ruznavo_plan(mask, N, plan, 2 * N, counts))) stop("a plan of one cut");
+        for (int kind = 0; kind < RUZNAVO_KINDS; kind++)
+            if (counts[kind] != (kind == one_cut[i].place)) stop("a place of the report");
+    }
+}
+
 static void run_frames(void) {
     static const uint8_t mask[8] = {1, 1, 1, 0, 1, 0, 0, 0}, payload[4] = {0, 0, 1, 1},
                          word[8] = {0, 1, 0, 1, 0, 1, 0, 1};
@@ -535,6 +555,7 @@ int main(int argc, char **argv) {
     signal(SIGBUS, fault);
     for (int s = 0; s < SLOTS; s++) guarded_map(&slots[s], slot_names[s]);
     run_frames();
+    run_counts();
     for (case_number = first; case_number < first + cases; case_number++) {
         struct random r = random_case(seed, case_number);
         run[case_number % CALLS](&r);

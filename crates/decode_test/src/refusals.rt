@@ -150,7 +150,7 @@ fn faulty_plan(stage: usize, faults: usize, variant: usize) -> Bytes {
 
 // ---- masks, LLRs and lengths
 
-// The first two positions are one frozen and one unfrozen: a REP node, or a node of no kind where the wrong cuts ask for it.
+// The first two positions are one frozen and one unfrozen: an SPC node, or a node of no kind where the wrong cuts ask for it.
 fn faulty_mask(stage: usize, faults: usize, variant: usize, seed: u32) -> Bytes {
     let n = length_of(stage);
     let c = Case {

@@ -13,8 +13,9 @@ use lib.Seq.{drop-cons, length-take-le, getD-append-add}
 use Rattle.model.specs.Lists.{same}
 use Rattle.model.specs.Encoding.{isUnfrozen, frozenToZero}
 use Rattle.model.specs.Kinds.{Kind, rate-0, rate-1, REP, SPC, type-I, type-III, type-II, type-IV, order, leastSize, pattern, onlyFirst, fits, firstOf, kindOf, isSome, isKind, row}
-use Rattle.model.proofs.Lists.{eqb-same, eqb-apart, T-true, true-T, absurd-bool, and-T, cond-both, and-assoc, and-true}
+use Rattle.model.proofs.Lists.{eqb-same, eqb-apart, true-T, absurd-bool, and-T, and-assoc, and-true}
 use Rattle.model.proofs.Shortcuts.{kind-facts}
+use Rattle.model.proofs.Orders.{finds, has-order}
 use Rattle.model.proofs.FrozenPositions.{toZero-at, toZero-length, toZero-l, toZero-r, toZero-unfrozen, kinds-alike}
 use Rattle.kinds.specs.Runs.{allAre, front, Ends}
 
@@ -70,10 +71,10 @@ pattern-run type-IV m h = (omega arith, refl)
 abbrev ownSize : Kind → ℕ
 ownSize rate-0 = 1
 ownSize rate-1 = 1
-ownSize REP = 2
-ownSize SPC = 3
-ownSize type-I = 4
-ownSize type-III = 5
+ownSize SPC = 2
+ownSize REP = 3
+ownSize type-III = 4
+ownSize type-I = 5
 ownSize type-II = 8
 ownSize type-IV = 8
 
@@ -86,10 +87,10 @@ own-size : (k : Kind) (m : ℕ) → leastSize k ≤ m → kindOf m (pattern k m)
 unfolding kindOf firstOf same frozenToZero
 own-size rate-0 m h e = h
 own-size rate-1 m h e = h
-own-size REP m h e = h
-own-size SPC m h e = let n : m ≡ 2 → ⊥ = λ q. other-kind REP SPC (rw q) e refl in omega arith
-own-size type-I m h e = h
-own-size type-III m h e = let n : m ≡ 4 → ⊥ = λ q. other-kind type-I type-III (rw q) e refl in omega arith
+own-size SPC m h e = h
+own-size REP m h e = let n : m ≡ 2 → ⊥ = λ q. other-kind SPC REP (rw q) e refl in omega arith
+own-size type-III m h e = h
+own-size type-I m h e = let n : m ≡ 4 → ⊥ = λ q. other-kind type-III type-I (rw q) e refl in omega arith
 own-size type-II m h e = h
 own-size type-IV m h e = h
 
@@ -120,8 +121,8 @@ module _ (mask : List ℕ) (f : ℕ) (h : f ≤ length mask) (e : mask ≡ onlyF
 -- the kind by the bytes next to the ends, in a mask of l positions, where the first one is frozen and the last is not
 abbrev mixed : List ℕ → ℕ → Kind
 mixed mask l =
-    cond (eqb (getD mask (l - 2) 0) 1) REP (cond (eqb (getD mask 1 0) 1)
-    (cond (eqb (getD mask (l - 3) 0) 1) type-I (cond (leb 8 l) (cond (eqb (getD mask 2 0) 1) (cond (eqb (getD mask (l - 4) 0) 1) type-II type-IV) type-III) type-III)) SPC)
+    cond (eqb (getD mask 1 0) 1) (cond (eqb (getD mask (l - 2) 0) 1) REP
+    (cond (eqb (getD mask 2 0) 1) (cond (eqb (getD mask (l - 3) 0) 1) type-I (cond (leb 8 l) (cond (eqb (getD mask (l - 4) 0) 1) type-II type-IV) type-III)) type-III)) SPC
 
 -- the kind by the bytes at both ends
 abbrev pub byEnds : List ℕ → Kind
@@ -151,37 +152,36 @@ told-by mask rate-1 h e =
     let last : getD mask (length mask - 1) 0 ≡ 0 = behind mask 0 (omega arith) e (length mask - 1) (omega arith) (omega arith) in
     let first : getD mask 0 0 ≡ 0 = behind mask 0 (omega arith) e 0 (omega arith) h in
     record { nonempty = h; zero = rw last; one = rw first; ends = rw (last, first) }
-told-by mask REP h e =
-    told-mixed mask REP (omega arith) (omega arith) e refl refl (rw (in-front mask (length mask - 1) (omega arith) e (length mask - 2) (omega arith)))
 told-by mask SPC h e =
-    let last-but-one : getD mask (length mask - 2) 0 ≡ 0 = behind mask 1 (omega arith) e (length mask - 2) (omega arith) (omega arith) in
-    told-mixed mask SPC (omega arith) (omega arith) e refl refl (rw (last-but-one, behind mask 1 (omega arith) e 1 (omega arith) (omega arith)))
+    told-mixed mask SPC (omega arith) (omega arith) e refl refl (rw (behind mask 1 (omega arith) e 1 (omega arith) (omega arith)))
+told-by mask REP h e =
+    let f : ℕ = length mask - 1 in
+    told-mixed mask REP (omega arith) (omega arith) e refl refl (rw (in-front mask f (omega arith) e 1 (omega arith), in-front mask f (omega arith) e (length mask - 2) (omega arith)))
+told-by mask type-III h e =
+    let second : getD mask 1 0 ≡ 1 = in-front mask 2 (omega arith) e 1 (omega arith) in
+    let last-but-one : getD mask (length mask - 2) 0 ≡ 0 = behind mask 2 (omega arith) e (length mask - 2) (omega arith) (omega arith) in
+    told-mixed mask type-III (omega arith) (omega arith) e refl refl (rw (second, last-but-one, behind mask 2 (omega arith) e 2 (omega arith) (omega arith)))
 told-by mask type-I h e =
     let f : ℕ = length mask - 2 in
-    let last-but-one : getD mask (length mask - 2) 0 ≡ 0 = behind mask f (omega arith) e (length mask - 2) (omega arith) (omega arith) in
     let second : getD mask 1 0 ≡ 1 = in-front mask f (omega arith) e 1 (omega arith) in
-    told-mixed mask type-I (omega arith) (omega arith) e refl refl (rw (last-but-one, second, in-front mask f (omega arith) e (length mask - 3) (omega arith)))
-told-by mask type-III h e =
-    let last-but-one : getD mask (length mask - 2) 0 ≡ 0 = behind mask 2 (omega arith) e (length mask - 2) (omega arith) (omega arith) in
-    let second : getD mask 1 0 ≡ 1 = in-front mask 2 (omega arith) e 1 (omega arith) in
-    told-mixed mask type-III (omega arith) (omega arith) e refl refl
-    (rw (last-but-one, second, behind mask 2 (omega arith) e (length mask - 3) (omega arith) (omega arith), behind mask 2 (omega arith) e 2 (omega arith) (omega arith))
-    (cond-both (λ (k : Kind). k ≡ type-III) (leb 8 (length mask)) refl refl))
+    let last-but-one : getD mask (length mask - 2) 0 ≡ 0 = behind mask f (omega arith) e (length mask - 2) (omega arith) (omega arith) in
+    let third : getD mask 2 0 ≡ 1 = in-front mask f (omega arith) e 2 (omega arith) in
+    told-mixed mask type-I (omega arith) (omega arith) e refl refl (rw (second, last-but-one, third, in-front mask f (omega arith) e (length mask - 3) (omega arith)))
 told-by mask type-II h e =
     let f : ℕ = length mask - 3 in
-    let last-but-one : getD mask (length mask - 2) 0 ≡ 0 = behind mask f (omega arith) e (length mask - 2) (omega arith) (omega arith) in
     let second : getD mask 1 0 ≡ 1 = in-front mask f (omega arith) e 1 (omega arith) in
-    let last-but-two : getD mask (length mask - 3) 0 ≡ 0 = behind mask f (omega arith) e (length mask - 3) (omega arith) (omega arith) in
+    let last-but-one : getD mask (length mask - 2) 0 ≡ 0 = behind mask f (omega arith) e (length mask - 2) (omega arith) (omega arith) in
     let third : getD mask 2 0 ≡ 1 = in-front mask f (omega arith) e 2 (omega arith) in
+    let last-but-two : getD mask (length mask - 3) 0 ≡ 0 = behind mask f (omega arith) e (length mask - 3) (omega arith) (omega arith) in
     told-mixed mask type-II (omega arith) (omega arith) e refl refl
-    (rw (last-but-one, second, last-but-two, le-leb 8 (length mask) h, third, in-front mask f (omega arith) e (length mask - 4) (omega arith)))
+    (rw (second, last-but-one, third, last-but-two, le-leb 8 (length mask) h, in-front mask f (omega arith) e (length mask - 4) (omega arith)))
 told-by mask type-IV h e =
-    let last-but-one : getD mask (length mask - 2) 0 ≡ 0 = behind mask 3 (omega arith) e (length mask - 2) (omega arith) (omega arith) in
     let second : getD mask 1 0 ≡ 1 = in-front mask 3 (omega arith) e 1 (omega arith) in
-    let last-but-two : getD mask (length mask - 3) 0 ≡ 0 = behind mask 3 (omega arith) e (length mask - 3) (omega arith) (omega arith) in
+    let last-but-one : getD mask (length mask - 2) 0 ≡ 0 = behind mask 3 (omega arith) e (length mask - 2) (omega arith) (omega arith) in
     let third : getD mask 2 0 ≡ 1 = in-front mask 3 (omega arith) e 2 (omega arith) in
+    let last-but-two : getD mask (length mask - 3) 0 ≡ 0 = behind mask 3 (omega arith) e (length mask - 3) (omega arith) (omega arith) in
     told-mixed mask type-IV (omega arith) (omega arith) e refl refl
-    (rw (last-but-one, second, last-but-two, le-leb 8 (length mask) h, third, behind mask 3 (omega arith) e (length mask - 4) (omega arith) (omega arith)))
+    (rw (second, last-but-one, third, last-but-two, le-leb 8 (length mask) h, behind mask 3 (omega arith) e (length mask - 4) (omega arith) (omega arith)))
 
 -- the mask by its own bytes
 pub record Read (mask : List ℕ) (o : Option Kind) : Type 0 where
@@ -245,25 +245,6 @@ apart mask i j a b e = a (ap (λ (n : ℕ). getD mask n 0) e ∙ b)
 pub empty : (mask : List ℕ) → length mask ≡ 0 → none ≡ kindOf (length mask) mask
 empty mask h = unfold kindOf firstOf in rw h
 
--- where a kind of the table fits, some kind is found
-here : (f : Kind → Bool) (k : Kind) (ks : List Kind) → T (f k) → T (isSome (firstOf f (k ∷ ks)))
-unfolding firstOf
-here f k ks t = rw (T-true (f k) t) tt
-
-above : (f : Kind → Bool) (k : Kind) (ks : List Kind) → T (isSome (firstOf f ks)) → T (isSome (firstOf f (k ∷ ks)))
-unfolding firstOf
-above f k ks t = cond-both (λ (o : Option Kind). T (isSome o)) (f k) tt t
-
-first-some : (f : Kind → Bool) (k : Kind) → T (f k) → T (isSome (firstOf f order))
-first-some f rate-0 t = here f _ _ t
-first-some f rate-1 t = above f _ _ (here f _ _ t)
-first-some f REP t = above f _ _ (above f _ _ (here f _ _ t))
-first-some f SPC t = above f _ _ (above f _ _ (above f _ _ (here f _ _ t)))
-first-some f type-I t = above f _ _ (above f _ _ (above f _ _ (above f _ _ (here f _ _ t))))
-first-some f type-III t = above f _ _ (above f _ _ (above f _ _ (above f _ _ (above f _ _ (here f _ _ t)))))
-first-some f type-II t = above f _ _ (above f _ _ (above f _ _ (above f _ _ (above f _ _ (above f _ _ (here f _ _ t))))))
-first-some f type-IV t = above f _ _ (above f _ _ (above f _ _ (above f _ _ (above f _ _ (above f _ _ (above f _ _ (here f _ _ t)))))))
-
 module _ (mask : List ℕ) {o : Option Kind} {f : ℕ} (E : Ends mask o f) where
   -- the run is that of the kind's pattern
   pub inside : f ≤ length mask
@@ -273,7 +254,7 @@ module _ (mask : List ℕ) {o : Option Kind} {f : ℕ} (E : Ends mask o f) where
   as-run = pattern-run (E .kind) (length mask) (E .room) .1 ∙ ap (λ (n : ℕ). onlyFirst n (length mask)) (sym (E .run))
 
   pub of-run : same (frozenToZero mask) (onlyFirst f (length mask)) ≡ true → o ≡ kindOf (length mask) mask
-  of-run e = E .only (unfold kindOf in first-some (fits (length mask) mask) (E .kind) fit)
+  of-run e = E .only (unfold kindOf in finds order (fits (length mask) mask) (E .kind) fit (has-order (E .kind)))
     where
       fit : T (fits (length mask) mask (E .kind))
       fit =

@@ -14,10 +14,10 @@ use Rattle.kinds.specs.declared.Kind.the-variants.{Rate0, Rate1, Rep, Sp
 abbrev pub kindNamed : code.Kind → Option Kind
 kindNamed Rate0 = some rate-0
 kindNamed Rate1 = some rate-1
-kindNamed Rep = some REP
 kindNamed Spc = some SPC
-kindNamed TypeI = some type-I
+kindNamed Rep = some REP
 kindNamed TypeIII = some type-III
+kindNamed TypeI = some type-I
 kindNamed TypeII = some type-II
 kindNamed TypeIV = some type-IV
 kindNamed NoKind = none

@@ -17,10 +17,10 @@ ghost use Rattle.kinds.specs.Known.{FixedAs};
 pub enum Kind {
     Rate0,
     Rate1,
-    Rep,
     Spc,
-    TypeI,
+    Rep,
     TypeIII,
+    TypeI,
     TypeII,
     TypeIV,
     NoKind,
@@ -54,10 +54,10 @@ pub fn table_row(k: Kind) -> Row
     match k {
         Kind::Rate0 => columns(0, 0, true),
         Kind::Rate1 => columns(1, 0, true),
-        Kind::Rep => columns(2, 2, false),
-        Kind::Spc => columns(3, 2, false),
-        Kind::TypeI => columns(4, 2, false),
-        Kind::TypeIII => columns(5, 2, false),
+        Kind::Spc => columns(2, 2, false),
+        Kind::Rep => columns(3, 2, false),
+        Kind::TypeIII => columns(4, 2, false),
+        Kind::TypeI => columns(5, 2, false),
         Kind::TypeII => columns(6, 4, false),
         Kind::TypeIV => columns(7, 4, false),
         Kind::NoKind => columns(KINDS, 0, false),
@@ -111,19 +111,19 @@ fn candidate_at_ends(mask: &[u8]) -> Candidate
     if mask[0] == UNFROZEN {
         return Candidate(Kind::Rate1, 0);
     }
+    if mask[1] == UNFROZEN {
+        return Candidate(Kind::Spc, 1);
+    }
     if mask[m - 2] != UNFROZEN {
         return Candidate(Kind::Rep, m - 1);
     }
-    if mask[1] == UNFROZEN {
-        return Candidate(Kind::Spc, 1);
+    if mask[2] == UNFROZEN {
+        return Candidate(Kind::TypeIII, 2);
     }
     if mask[m - 3] != UNFROZEN {
         return Candidate(Kind::TypeI, m - 2);
     }
     if m < 8 {
-        return Candidate(Kind::TypeIII, 2);
-    }
-    if mask[2] == UNFROZEN {
         return Candidate(Kind::TypeIII, 2);
     }
     if mask[m - 4] != UNFROZEN {

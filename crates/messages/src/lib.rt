@@ -195,10 +195,10 @@ pub fn cut_message(w: &mut [i32], k: Kind, m: usize, x: usize, s: usize)
     match k {
         Kind::Rate0 => rate_zero_message(w, m, s),
         Kind::Rate1 => rate_one_message(w, m, s),
-        Kind::Rep => rep_message(w, m, x, s),
         Kind::Spc => spc_message(w, m, x, s),
-        Kind::TypeI => type_one_message(w, m, x, s),
+        Kind::Rep => rep_message(w, m, x, s),
         Kind::TypeIII => type_three_message(w, m, x, s),
+        Kind::TypeI => type_one_message(w, m, x, s),
         Kind::TypeII => type_two_message(w, m, x, s),
         Kind::TypeIV => type_four_message(w, m, x, s),
         Kind::NoKind => {}

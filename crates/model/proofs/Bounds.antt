@@ -17,7 +17,7 @@ use Rattle.model.proofs.Lists.{getD-tabulate, joined-lo, joined-hi, hal
 use Rattle.model.specs.Kinds.{isSome, Kind, kindOf, shortcut, classes}
 use mathlib.Core.Option.{some}
 use Rattle.model.proofs.Algebra.{plus-comm, box-monoid}
-use Rattle.model.specs.Plans.{isCut, wellCut, putKind, walk}
+use Rattle.model.specs.Plans.{isCut, wellCut, putKind, walk, walkBy}
 use Rattle.model.proofs.Shortcuts.{kind-visit, sound-start}
 use Rattle.model.proofs.Paths.{wellCut-cut, wellCut-through, well-l, well-r}
 use Rattle.model.proofs.PlannedWalk.{walk-cut, walk-through, cut-message}
@@ -187,7 +187,7 @@ held-through plan t p mask e hl hr B P L w S H =
     (under-toNode t B L S (message l) (message r) (held-message plan t (2 * p) (2 * B) l Hl) (held-message plan t (2 * p + 1) (2 * B) r Hr), λ _. (Hl, Hr))
 
 pub held-walk : (plan : List ℕ) (t p : ℕ) (mask : List ℕ) → HeldStep plan t p mask
-unfolding walk wellCut
+unfolding walkBy wellCut
 held-walk plan zero p mask = λ B P L w S H. put-under zero B mask P L (and-r (isCut plan p) (isSome (kindOf 1 mask)) w) S
 held-walk plan (suc t) p mask = go (isCut plan p) refl (held-walk plan t (2 * p) (take (2 ^ t) mask)) (held-walk plan t (2 * p + 1) (drop (2 ^ t) mask))
   where

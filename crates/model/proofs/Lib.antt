@@ -15,5 +15,7 @@ pub mod LeafOnly
 pub mod TwoRuns
 pub mod Signs
 pub mod Bounds
+pub mod Orders
+pub mod FormerCounts
 pub mod Theorems
 pub mod Frames

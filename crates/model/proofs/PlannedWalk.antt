@@ -9,7 +9,7 @@ use lib.ListN.{take, drop}
 use Rattle.model.specs.Soft.{Soft}
 use Rattle.model.specs.Scan.{Tree, leaf, node, message, left, right, toLeft, toRight, toNode, visit, sweeps}
 use Rattle.model.specs.Kinds.{isSome, Kind, kindOf, shortcut}
-use Rattle.model.specs.Plans.{isCut, wellCut, put, putKind, walk, Agree, Stays}
+use Rattle.model.specs.Plans.{isCut, wellCut, put, putKind, walk, walkBy, Agree, Stays}
 use Rattle.model.proofs.Shortcuts.{Sound, sound-visit, kind-visit}
 use Rattle.model.proofs.Lists.{absurd-bool, and-l, and-r}
 use Rattle.model.proofs.Paths.{wellCut-cut, wellCut-through}
@@ -37,7 +37,7 @@ cut-message t mask F P L k S = go (kindOf (2 ^ t) mask) refl k
 
 pub walk-cut : (plan : List ℕ) (t p : ℕ) (mask : List ℕ) (P : Tree) (L : List Soft) → isCut plan p ≡ true
     → walk plan t p mask P L ≡ putKind (kindOf (2 ^ t) mask) (2 ^ t) L P
-unfolding walk
+unfolding walkBy
 walk-cut plan zero p mask P L e = refl
 walk-cut plan (suc t) p mask P L e = rw e
 
@@ -50,7 +50,7 @@ descend f g h T L =
 
 pub walk-through : (plan : List ℕ) (t p : ℕ) (mask : List ℕ) (P : Tree) (L : List Soft) → isCut plan p ≡ false
     → walk plan (suc t) p mask P L ≡ descend (walk plan t (2 * p) (take (2 ^ t) mask)) (walk plan t (2 * p + 1) (drop (2 ^ t) mask)) (2 ^ t) P L
-unfolding walk
+unfolding walkBy
 walk-through plan t p mask P L e = rw e
 
 -- the claim for a node: it is kept by one visit
@@ -85,7 +85,7 @@ keeps-cut plan t p mask e F P L w S A =
     (cut-message (suc t) mask F P L (wellCut-cut plan (suc t) p mask e w) S ∙ ap message (sym (walk-cut plan (suc t) p mask P L e)), λ q. absurd (absurd-bool (isCut plan p) e q))
 
 pub walk-agrees : (plan : List ℕ) (t p : ℕ) (mask : List ℕ) → Keeps plan t p mask
-unfolding visit walk wellCut
+unfolding visit walkBy wellCut
 walk-agrees plan zero p mask = λ F P L w S A. cut-message zero mask F P L (and-r (isCut plan p) (isSome (kindOf 1 mask)) w) S
 walk-agrees plan (suc t) p mask =
     go (isCut plan p) refl (walk-agrees plan t (2 * p) (take (2 ^ t) mask)) (walk-agrees plan t (2 * p + 1) (drop (2 ^ t) mask))

@@ -15,7 +15,7 @@ use lib.Pow.{pow-pos, pow-mono}
 use Rattle.model.specs.Lists.{tabulate, bit, same, atMost}
 use Rattle.model.specs.Kinds.{isSome, firstOf, kindOf}
 use Rattle.model.specs.Encoding.{maxMask, Mask, frozenToZero}
-use Rattle.model.specs.Plans.{isCut, noCut, wellCut, Allowed, cycles, cutsBelow, cutAt, levels, plannerPlan}
+use Rattle.model.specs.Plans.{isCut, noCut, wellCut, Allowed, cycles, cutsBelow, cutAt, levels, plannerPlan, plannerBy, levelsBy, cutAtBy}
 use Rattle.model.proofs.Paths.{wellCut-cut, well-l, well-r, noCut-below, allow, allowed-length, allowed-bytes, allowed-first}
 use Rattle.model.proofs.Cycles.{cost, cycles-cut, cycles-through, cost-leaf, cost-cut, cost-through, walk-on}
 use Rattle.model.proofs.Lists.{double, length-tabulate, getD-tabulate, halves, only, T-true, true-T, absurd-bool, and-l, and-r, and-T, at-most-at, at-most-take, at-most-drop, at-most-append, at-most-tabulate, not-bit, bit-small}
@@ -59,15 +59,15 @@ clear-noCut plan (suc t) p C =
     (clear-noCut plan t (2 * p + 1) (below-r plan (λ d i. false) t p C)))
 
 pub cutAt-some : (t d i : ℕ) (mask : List ℕ) → isSome (kindOf (2 ^ suc t) mask) ≡ true → cutAt (suc t) (suc d) i mask ≡ false
-unfolding cutAt
+unfolding cutAtBy
 cutAt-some t d i mask e = rw e
 
 pub cutAt-l : (t d i : ℕ) (mask : List ℕ) → isSome (kindOf (2 ^ suc t) mask) ≡ false → i < 2 ^ d → cutAt (suc t) (suc d) i mask ≡ cutAt t d i (take (2 ^ t) mask)
-unfolding cutAt
+unfolding cutAtBy
 cutAt-l t d i mask e l = rw (e, lt-ltb i (2 ^ d) l)
 
 pub cutAt-r : (t d i : ℕ) (mask : List ℕ) → isSome (kindOf (2 ^ suc t) mask) ≡ false → cutAt (suc t) (suc d) (i + 2 ^ d) mask ≡ cutAt t d i (drop (2 ^ t) mask)
-unfolding cutAt
+unfolding cutAtBy
 cutAt-r t d i mask e = rw (e, le-ltb (i + 2 ^ d) (2 ^ d) (omega arith)) (ap (λ (n : ℕ). cutAt t d n (drop (2 ^ t) mask)) s)
   where
     s : i + 2 ^ d - 2 ^ d ≡ i
@@ -81,7 +81,7 @@ Chosen plan (suc t) p mask =
     × (isSome (kindOf (2 ^ suc t) mask) ≡ false → (isCut plan p ≡ false) × Chosen plan t (2 * p) (take (2 ^ t) mask) × Chosen plan t (2 * p + 1) (drop (2 ^ t) mask))
 
 bytes-chosen : (plan : List ℕ) (t p : ℕ) (mask : List ℕ) → Bytes plan t p mask → Chosen plan t p mask
-unfolding cutAt
+unfolding cutAtBy
 bytes-chosen plan zero p mask B = ap (isCut plan) (sym (idx-root p)) ∙ B 0 0 zero-le (omega arith)
 bytes-chosen plan (suc t) p mask B = (
   λ e. (
@@ -99,14 +99,14 @@ bytes-chosen plan (suc t) p mask B = (
 
 -- ---- the planner's list
 length-levels : (n : ℕ) (mask : List ℕ) (m : ℕ) → length (levels n mask m) ≡ 2 ^ suc m
-unfolding levels
+unfolding levelsBy
 length-levels n mask zero = refl
 length-levels n mask (suc m) =
     length-append (levels n mask m) (tabulate (2 ^ suc m) (λ i. bit (cutAt n (suc m) i mask)))
     ∙ rw (length-levels n mask m, length-tabulate (2 ^ suc m) (λ i. bit (cutAt n (suc m) i mask))) (sym (double (suc m)))
 
 levels-last : (n : ℕ) (mask : List ℕ) (m i : ℕ) → i < 2 ^ suc m → getD (levels n mask (suc m)) (2 ^ suc m + i) 0 ≡ bit (cutAt n (suc m) i mask)
-unfolding levels
+unfolding levelsBy
 levels-last n mask m i l =
     let row : List ℕ = tabulate (2 ^ suc m) (λ i. bit (cutAt n (suc m) i mask)) in
     ap (λ (x : ℕ). getD (levels n mask m ++ row) (x + i) 0) (sym (length-levels n mask m))
@@ -114,13 +114,13 @@ levels-last n mask m i l =
     ∙ getD-tabulate (2 ^ suc m) (λ i. bit (cutAt n (suc m) i mask)) i 0 l
 
 levels-before : (n : ℕ) (mask : List ℕ) (m d i : ℕ) → d ≤ m → i < 2 ^ d → getD (levels n mask (suc m)) (2 ^ d + i) 0 ≡ getD (levels n mask m) (2 ^ d + i) 0
-unfolding levels
+unfolding levelsBy
 levels-before n mask m d i h l =
     List·getD-append (levels n mask m) (tabulate (2 ^ suc m) (λ i. bit (cutAt n (suc m) i mask))) 0 (2 ^ d + i)
     (rw (length-levels n mask m) (let q : 2 ^ d ≤ 2 ^ m = pow-mono h in omega arith))
 
 levels-at : (n : ℕ) (mask : List ℕ) (m d i : ℕ) → d ≤ m → i < 2 ^ d → getD (levels n mask m) (2 ^ d + i) 0 ≡ bit (cutAt n d i mask)
-levels-at n mask zero zero i h l = unfold levels in only (λ i. getD (0 ∷ bit (cutAt n 0 0 mask) ∷ []) (2 ^ 0 + i) 0 ≡ bit (cutAt n 0 i mask)) refl i l
+levels-at n mask zero zero i h l = unfold levelsBy in only (λ i. getD (0 ∷ bit (cutAt n 0 0 mask) ∷ []) (2 ^ 0 + i) 0 ≡ bit (cutAt n 0 i mask)) refl i l
 levels-at n mask zero (suc d) i h l = let z : ⊥ = omega arith in absurd z
 levels-at n mask (suc m) d i h l = go (decLe d m) (levels-at n mask m d i)
   where
@@ -136,7 +136,7 @@ eqb-bit true = refl
 eqb-bit false = refl
 
 planner-bytes : (n : ℕ) (mask : List ℕ) → Bytes (plannerPlan n mask) n 1 mask
-unfolding plannerPlan
+unfolding plannerBy
 planner-bytes n mask d i h l =
     ap (λ (x : ℕ). eqb (getD (levels n mask n) (x + i) 0) 1) (one-mul (2 ^ d))
     ∙ ap (λ (x : ℕ). eqb x 1) (levels-at n mask n d i h l) ∙ eqb-bit (cutAt n d i mask)
@@ -181,7 +181,7 @@ chosen-wellCut plan (suc t) p mask M C =
         rw (C .1 e .0) (and-T (wellCut plan t (2 * p) (take (2 ^ t) mask)) (wellCut plan t (2 * p + 1) (drop (2 ^ t) mask)) (il (C .1 e .1)) (ir (C .1 e .2)))
 
 levels-bytes : (n : ℕ) (mask : List ℕ) (m : ℕ) → T (atMost 1 (levels n mask m))
-unfolding levels atMost
+unfolding levelsBy atMost
 levels-bytes n mask zero = two (cutAt n 0 0 mask)
   where
     two : (b : Bool) → T (atMost 1 (0 ∷ bit b ∷ []))
@@ -194,7 +194,7 @@ levels-bytes n mask (suc m) =
     (at-most-tabulate 1 (2 ^ suc m) (λ i. bit (cutAt n (suc m) i mask)) (λ i. bit-small (cutAt n (suc m) i mask))))
 
 levels-first : (n : ℕ) (mask : List ℕ) (m : ℕ) → getD (levels n mask m) 0 0 ≡ 0
-unfolding levels
+unfolding levelsBy
 levels-first n mask zero = refl
 levels-first n mask (suc m) =
     List·getD-append (levels n mask m) (tabulate (2 ^ suc m) (λ i. bit (cutAt n (suc m) i mask))) 0 0
@@ -202,14 +202,14 @@ levels-first n mask (suc m) =
     ∙ levels-first n mask m
 
 pub planner-length : (n : ℕ) (mask : List ℕ) → length (plannerPlan n mask) ≡ 2 * 2 ^ n
-unfolding plannerPlan
+unfolding plannerBy
 planner-length n mask = length-levels n mask n ∙ omega arith
 
 -- the planner's plan is allowed
 pub planner-allowed : (n : ℕ) (mask : List ℕ) → Mask n mask → Allowed n (plannerPlan n mask) mask
 planner-allowed n mask M =
-    allow n (plannerPlan n mask) mask (planner-length n mask) (unfold plannerPlan in levels-bytes n mask n)
-    (unfold plannerPlan in levels-first n mask n) (chosen-wellCut (plannerPlan n mask) n 1 mask M (planner-chosen n mask))
+    allow n (plannerPlan n mask) mask (planner-length n mask) (unfold plannerBy in levels-bytes n mask n)
+    (unfold plannerBy in levels-first n mask n) (chosen-wellCut (plannerPlan n mask) n 1 mask M (planner-chosen n mask))
 
 -- ---- least: P is the planner's choice, Q any allowed plan
 module _ (P Q : List ℕ) where

@@ -3,18 +3,20 @@
 use mathlib.Core.Path.{_≡_, sym, ap}
 use mathlib.Core.Logic.{_⊎_, inl, inr}
 use mathlib.Core.Bool.{_&&_}
-use mathlib.Core.List.{List, map}
+use mathlib.Core.List.{List, [], _∷_, map}
 use Prim.Native.Nat.{ℕ, suc, _*_, _-_, _^_, _<_, _≤_}
 use native.Mathlib.Omega.{arith}
 use lib.Dec.{T}
 use lib.IntN.{ℤ}
-use lib.ListN.{length}
+use lib.ListN.{length, getD}
 use lib.Pow.{pow-mono}
 use Rattle.model.specs.Lists.{atMost}
 use Rattle.model.specs.Soft.{Soft, finite, _at_, plus, maxLlr}
 use Rattle.model.specs.Encoding.{Mask, unfrozen, encode}
 use Rattle.model.specs.Scan.{Tree, message, start, visit, sweeps, scan, decided, decodeScan, SignsOf}
-use Rattle.model.specs.Plans.{oneCut, cutsOfKinds, wellCut, Allowed, leafOnly, walk, planned, Agree, Stays, cycles, plannerPlan, cutsBelow}
+use Rattle.model.specs.Plans.{oneCut, cutsOfKinds, wellCut, Allowed, leafOnly, walk, walkBy, planned, Agree, Stays, cycles, cyclesBy, plannerPlan, cutsBelow, counts, plannedBy, cutsOfKindsBy, plannerBy}
+use Rattle.model.specs.Kinds.{Kind, order, fits, kindBy, ownCycles, shortcut}
+use Rattle.model.specs.Orders.{former, HasAll, countsBy, cutsWith, moved}
 use Rattle.model.specs.Bounds.{SmallAll, Under, AllUnder, InRange, limit, cap}
 use Rattle.model.proofs.Shortcuts.{sound-start}
 use Rattle.model.proofs.Paths.{wellCut-test, allowed-cuts}
@@ -23,6 +25,8 @@ use Rattle.model.proofs.Cycles.{cycles-bound}
 use Rattle.model.proofs.Planner.{Same, planner-allowed, planner-chosen, cycles-least, same-or-more, same-list}
 use Rattle.model.proofs.LeafOnly.{leafOnly-allowed, leafOnly-cycles}
 use Rattle.model.proofs.Signs.{signs-hard, signs-payload, signs-check}
+use Rattle.model.proofs.Orders.{same-message, same-cycles, cuts-by, planner-by, walk-by, planned-by, cycles-by, has-order, has-former}
+use Rattle.model.proofs.FormerCounts.{counts-moved, moved-most}
 use Rattle.model.proofs.Bounds.{within-sweeps, within-start, within-all, within-held, held-sweeps, in-range, soft-under, under-plus, under-mono, cap-limit}
 
 -- ---- 1. Every accepted decode, whichever allowed plan it is given, equals SCAN walked to the last leaf.
@@ -39,7 +43,7 @@ soft-from n plan mask W L k P A =
     sym (agree-message plan n 1 (sweeps (λ T. visit n T L) k (start n mask)) (sweeps (λ T. walk plan n 1 mask T L) k P) (plan-agrees n plan mask W L k P A))
 
 pub soft-same : (n : ℕ) (plan mask : List ℕ) → Allowed n plan mask → (L : List Soft) (k : ℕ) → planned plan n mask L k ≡ scan n mask L k
-unfolding planned
+unfolding plannedBy
 soft-same n plan mask W L k = soft-from n plan mask W L k (start n mask) (agree-same plan n 1 (start n mask))
 
 pub decode-same : (n : ℕ) (plan mask : List ℕ) → Allowed n plan mask → (L : List Soft) (k : ℕ) → decided n mask L (planned plan n mask L k) ≡ decodeScan n mask L k
@@ -120,3 +124,40 @@ decision-bound n h mask L S k j l =
 -- The limit, and twice the limit, fit in 32 bits with the sign, below the mark.
 pub limit-fits : 2 * limit < 2147483647
 limit-fits = omega arith
+
+-- ---- 5. What depends on the order of the kinds, and what does not (request No. 4).
+
+-- Where two kinds fit the same part of a mask, their messages are equal for every incoming list, and so are their cycles.
+pub names-alike : (t : ℕ) (mask : List ℕ) (j k : Kind) → T (fits (2 ^ t) mask j) → T (fits (2 ^ t) mask k)
+    → ((L : List Soft) → shortcut j (2 ^ t) L ≡ shortcut k (2 ^ t) L) × (ownCycles j ≡ ownCycles k)
+names-alike t mask j k fj fk = (same-message t mask j k fj fk, same-cycles (2 ^ t) mask j k fj fk)
+
+-- Which plans are allowed, which one the planner makes, the soft values along a plan and its cycles are the same in every order that has all kinds.
+module _ (kinds : List Kind) (all : HasAll kinds) where
+  pub cuts-in-order : (plan : List ℕ) (t p : ℕ) (mask : List ℕ) → cutsOfKindsBy (kindBy kinds) plan t p mask ≡ cutsOfKinds plan t p mask
+  cuts-in-order = cuts-by kinds all
+
+  pub planner-in-order : (n : ℕ) (mask : List ℕ) → plannerBy (kindBy kinds) n mask ≡ plannerPlan n mask
+  planner-in-order = planner-by kinds all
+
+  pub walk-in-order : (plan : List ℕ) (t p : ℕ) (mask : List ℕ) (P : Tree) (L : List Soft) → walkBy (kindBy kinds) plan t p mask P L ≡ walk plan t p mask P L
+  walk-in-order = walk-by kinds all
+
+  pub planned-in-order : (plan : List ℕ) (n : ℕ) (mask : List ℕ) (L : List Soft) (k : ℕ) → plannedBy (kindBy kinds) plan n mask L k ≡ planned plan n mask L k
+  planned-in-order = planned-by kinds all
+
+  pub cycles-in-order : (plan : List ℕ) (t p : ℕ) (mask : List ℕ) → cyclesBy (kindBy kinds) plan t p mask ≡ cycles plan t p mask
+  cycles-in-order = cycles-by kinds all
+
+-- The table's order has all kinds, and so has the one before request No. 4.
+pub orders-whole : HasAll order × HasAll former
+orders-whole = (has-order, has-former)
+
+-- The counts from the former ones: each cut node 10 moves from REP to SPC, each cut node 1100 from type I to type III, and the places move. Of what a
+-- count loses, it had as many.
+pub counts-from-former : (n : ℕ) (plan mask : List ℕ) → length mask ≡ 2 ^ n
+    → let c : List ℕ = countsBy former plan n mask in
+    let x : ℕ = cutsWith (1 ∷ 0 ∷ []) plan n 1 mask in
+    let y : ℕ = cutsWith (1 ∷ 1 ∷ 0 ∷ 0 ∷ []) plan n 1 mask in
+    (counts plan n mask ≡ moved x y c) × (x ≤ getD c 2 0) × (y ≤ getD c 4 0)
+counts-from-former n plan mask sized = (counts-moved plan n mask sized, moved-most plan n mask sized .0, moved-most plan n mask sized .1)

@@ -1,4 +1,4 @@
--- Kinds of node: the table of document 01 with the two rows of request No. 3, a column a definition. Assumes nothing.
+-- Kinds of node: the table of document 01 with the two rows of request No. 3, in the order of request No. 4, a column a definition. Assumes nothing.
 use Prim.Native.Nat.{ℕ, suc, _-_, _%_}
 use mathlib.Core.Bool.{Bool, true, false, cond, not, _&&_}
 use mathlib.Core.Option.{Option, none, some}
@@ -13,9 +13,9 @@ use Rattle.model.specs.Encoding.{frozenToZero}
 pub data Kind : Type 0 where
   rate-0 rate-1 REP SPC type-I type-III type-II type-IV : Kind
 
--- the table's order
+-- the table's order, in deciding and in the planner's report
 abbrev pub order : List Kind
-order = rate-0 ∷ rate-1 ∷ REP ∷ SPC ∷ type-I ∷ type-III ∷ type-II ∷ type-IV ∷ []
+order = rate-0 ∷ rate-1 ∷ SPC ∷ REP ∷ type-III ∷ type-I ∷ type-II ∷ type-IV ∷ []
 
 -- all frozen but the last s, of m
 abbrev pub butLast : ℕ → ℕ → List ℕ
@@ -105,9 +105,13 @@ unfoldable pub firstOf : (Kind → Bool) → List Kind → Option Kind
 firstOf f [] = none
 firstOf f (k ∷ ks) = cond (f k) (some k) (firstOf f ks)
 
--- the kind of a node: the upper one where two fit
+-- the kind of a node by an order of the kinds: the upper one where two fit
+abbrev pub kindBy : List Kind → ℕ → List ℕ → Option Kind
+kindBy kinds m mask = firstOf (fits m mask) kinds
+
+-- the kind of a node
 unfoldable pub kindOf : ℕ → List ℕ → Option Kind
-kindOf m mask = firstOf (fits m mask) order
+kindOf m mask = kindBy order m mask
 
 -- whether there is a kind
 abbrev pub isSome : Option Kind → Bool

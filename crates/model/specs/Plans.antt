@@ -11,6 +11,11 @@ use Rattle.model.specs.Soft.{Soft}
 use Rattle.model.specs.Scan.{Tree, leaf, node, message, left, right, toLeft, toRight, toNode, start, sweeps}
 use Rattle.model.specs.Kinds.{Kind, order, ownCycles, isFixed, kindOf, isSome, isKind, shortcut}
 
+-- which kind a node counts as, by its size and its part of the mask. What follows takes `kindOf`; a definition whose name ends in By takes any, so that
+-- request No. 4's theorems can compare two
+abbrev pub Naming : Type 0
+Naming = ℕ → List ℕ → Option Kind
+
 -- 2N bytes of 0 and 1, byte 0 being 0
 unfoldable pub isPlan : ℕ → List ℕ → Bool
 isPlan n plan = eqb (length plan) (2 * 2 ^ n) && (atMost 1 plan && eqb (getD plan 0 0) 0)
@@ -30,11 +35,14 @@ unfoldable pub oneCut : ℕ → List ℕ → Bool
 oneCut n plan = every (2 ^ n) (λ i. eqb (pathCuts plan n 1 i) 1)
 
 -- from node p down, a cut node is of some kind
-unfoldable pub cutsOfKinds : List ℕ → ℕ → ℕ → List ℕ → Bool
-cutsOfKinds plan zero p mask = cond (isCut plan p) (isSome (kindOf 1 mask)) true
-cutsOfKinds plan (suc t) p mask =
-    cond (isCut plan p) (isSome (kindOf (2 ^ suc t) mask)) true
-    && (cutsOfKinds plan t (2 * p) (take (2 ^ t) mask) && cutsOfKinds plan t (2 * p + 1) (drop (2 ^ t) mask))
+unfoldable pub cutsOfKindsBy : Naming → List ℕ → ℕ → ℕ → List ℕ → Bool
+cutsOfKindsBy name plan zero p mask = cond (isCut plan p) (isSome (name 1 mask)) true
+cutsOfKindsBy name plan (suc t) p mask =
+    cond (isCut plan p) (isSome (name (2 ^ suc t) mask)) true
+    && (cutsOfKindsBy name plan t (2 * p) (take (2 ^ t) mask) && cutsOfKindsBy name plan t (2 * p + 1) (drop (2 ^ t) mask))
+
+abbrev pub cutsOfKinds : List ℕ → ℕ → ℕ → List ℕ → Bool
+cutsOfKinds plan t p mask = cutsOfKindsBy kindOf plan t p mask
 
 -- a plan that keeps to all this for a mask is allowed for that mask
 pub record Allowed (n : ℕ) (plan mask : List ℕ) : Type 0 where
@@ -58,17 +66,24 @@ abbrev pub putKind : Option Kind → ℕ → List Soft → Tree → Tree
 putKind none m L T = T
 putKind (some k) m L T = put (shortcut k m L) T
 
-unfoldable pub walk : List ℕ → ℕ → ℕ → List ℕ → Tree → List Soft → Tree
-walk plan zero p mask T L = putKind (kindOf 1 mask) 1 L T
-walk plan (suc t) p mask T L =
-    let l : Tree = walk plan t (2 * p) (take (2 ^ t) mask) (left T) (toLeft (2 ^ t) L (message (right T))) in
-    let r : Tree = walk plan t (2 * p + 1) (drop (2 ^ t) mask) (right T) (toRight (2 ^ t) L (message l)) in
+-- one visit of node p along a plan
+unfoldable pub walkBy : Naming → List ℕ → ℕ → ℕ → List ℕ → Tree → List Soft → Tree
+walkBy name plan zero p mask T L = putKind (name 1 mask) 1 L T
+walkBy name plan (suc t) p mask T L =
+    let l : Tree = walkBy name plan t (2 * p) (take (2 ^ t) mask) (left T) (toLeft (2 ^ t) L (message (right T))) in
+    let r : Tree = walkBy name plan t (2 * p + 1) (drop (2 ^ t) mask) (right T) (toRight (2 ^ t) L (message l)) in
     let through : Tree = node (toNode (2 ^ t) L (message l) (message r)) l r in
-    cond (isCut plan p) (putKind (kindOf (2 ^ suc t) mask) (2 ^ suc t) L T) through
+    cond (isCut plan p) (putKind (name (2 ^ suc t) mask) (2 ^ suc t) L T) through
+
+abbrev pub walk : List ℕ → ℕ → ℕ → List ℕ → Tree → List Soft → Tree
+walk plan t p mask T L = walkBy kindOf plan t p mask T L
 
 -- the root's message after k sweeps along a plan
-unfoldable pub planned : List ℕ → ℕ → List ℕ → List Soft → ℕ → List Soft
-planned plan n mask L k = message (sweeps (λ T. walk plan n 1 mask T L) k (start n mask))
+unfoldable pub plannedBy : Naming → List ℕ → ℕ → List ℕ → List Soft → ℕ → List Soft
+plannedBy name plan n mask L k = message (sweeps (λ T. walkBy name plan n 1 mask T L) k (start n mask))
+
+abbrev pub planned : List ℕ → ℕ → List ℕ → List Soft → ℕ → List Soft
+planned plan n mask L k = plannedBy kindOf plan n mask L k
 
 -- two states have the same messages at the cuts of a plan and above them; below a cut they may hold anything
 abbrev pub Agree : List ℕ → ℕ → ℕ → Tree → Tree → Type 0
@@ -97,36 +112,51 @@ cutCycles none = 0
 cutCycles (some k) = ownCycles k
 
 -- 2 for a child that is not a cut rate-0 or rate-1 node
+abbrev pub edgeBy : Naming → List ℕ → ℕ → ℕ → List ℕ → ℕ
+edgeBy name plan m p mask = cond (isCut plan p && isRate01 (name m mask)) 0 2
+
 abbrev pub edgeCycles : List ℕ → ℕ → ℕ → List ℕ → ℕ
-edgeCycles plan m p mask = cond (isCut plan p && isRate01 (kindOf m mask)) 0 2
+edgeCycles plan m p mask = edgeBy kindOf plan m p mask
 
 -- an uncut node 2, plus its edges
-unfoldable pub cycles : List ℕ → ℕ → ℕ → List ℕ → ℕ
-cycles plan zero p mask = cutCycles (kindOf 1 mask)
-cycles plan (suc t) p mask =
+unfoldable pub cyclesBy : Naming → List ℕ → ℕ → ℕ → List ℕ → ℕ
+cyclesBy name plan zero p mask = cutCycles (name 1 mask)
+cyclesBy name plan (suc t) p mask =
     let a : List ℕ = take (2 ^ t) mask in
     let b : List ℕ = drop (2 ^ t) mask in
-    let edges : ℕ = edgeCycles plan (2 ^ t) (2 * p) a + edgeCycles plan (2 ^ t) (2 * p + 1) b in
-    let below : ℕ = cycles plan t (2 * p) a + cycles plan t (2 * p + 1) b in
-    cond (isCut plan p) (cutCycles (kindOf (2 ^ suc t) mask)) (2 + edges + below)
+    let edges : ℕ = edgeBy name plan (2 ^ t) (2 * p) a + edgeBy name plan (2 ^ t) (2 * p + 1) b in
+    let below : ℕ = cyclesBy name plan t (2 * p) a + cyclesBy name plan t (2 * p + 1) b in
+    cond (isCut plan p) (cutCycles (name (2 ^ suc t) mask)) (2 + edges + below)
+
+abbrev pub cycles : List ℕ → ℕ → ℕ → List ℕ → ℕ
+cycles plan t p mask = cyclesBy kindOf plan t p mask
 
 -- ---- the planner cuts each node of a kind that has no such node above it
 
 -- d levels below a node of stage t, at place i of that level: is the node of a kind, with none above it?
-unfoldable pub cutAt : ℕ → ℕ → ℕ → List ℕ → Bool
-cutAt t zero i mask = isSome (kindOf (2 ^ t) mask)
-cutAt zero (suc d) i mask = false
-cutAt (suc t) (suc d) i mask =
-    not (isSome (kindOf (2 ^ suc t) mask))
-    && cond (ltb i (2 ^ d)) (cutAt t d i (take (2 ^ t) mask)) (cutAt t d (i - 2 ^ d) (drop (2 ^ t) mask))
+unfoldable pub cutAtBy : Naming → ℕ → ℕ → ℕ → List ℕ → Bool
+cutAtBy name t zero i mask = isSome (name (2 ^ t) mask)
+cutAtBy name zero (suc d) i mask = false
+cutAtBy name (suc t) (suc d) i mask =
+    not (isSome (name (2 ^ suc t) mask))
+    && cond (ltb i (2 ^ d)) (cutAtBy name t d i (take (2 ^ t) mask)) (cutAtBy name t d (i - 2 ^ d) (drop (2 ^ t) mask))
+
+abbrev pub cutAt : ℕ → ℕ → ℕ → List ℕ → Bool
+cutAt t d i mask = cutAtBy kindOf t d i mask
 
 -- byte 0, and the levels from the root down to d: node 2 ^ d + i is place i of level d
-unfoldable pub levels : ℕ → List ℕ → ℕ → List ℕ
-levels n mask zero = 0 ∷ bit (cutAt n 0 0 mask) ∷ []
-levels n mask (suc d) = levels n mask d ++ tabulate (2 ^ suc d) (λ i. bit (cutAt n (suc d) i mask))
+unfoldable pub levelsBy : Naming → ℕ → List ℕ → ℕ → List ℕ
+levelsBy name n mask zero = 0 ∷ bit (cutAtBy name n 0 0 mask) ∷ []
+levelsBy name n mask (suc d) = levelsBy name n mask d ++ tabulate (2 ^ suc d) (λ i. bit (cutAtBy name n (suc d) i mask))
 
-unfoldable pub plannerPlan : ℕ → List ℕ → List ℕ
-plannerPlan n mask = levels n mask n
+abbrev pub levels : ℕ → List ℕ → ℕ → List ℕ
+levels n mask d = levelsBy kindOf n mask d
+
+unfoldable pub plannerBy : Naming → ℕ → List ℕ → List ℕ
+plannerBy name n mask = levelsBy name n mask n
+
+abbrev pub plannerPlan : ℕ → List ℕ → List ℕ
+plannerPlan n mask = plannerBy kindOf n mask
 
 -- ---- numbers of cut nodes
 
@@ -136,13 +166,16 @@ cutsBelow plan zero p = bit (isCut plan p)
 cutsBelow plan (suc t) p = bit (isCut plan p) + (cutsBelow plan t (2 * p) + cutsBelow plan t (2 * p + 1))
 
 -- of kind k, from node p down
-unfoldable pub cutsOf : Kind → List ℕ → ℕ → ℕ → List ℕ → ℕ
-cutsOf k plan zero p mask = bit (isCut plan p && isKind k (kindOf 1 mask))
-cutsOf k plan (suc t) p mask =
-    bit (isCut plan p && isKind k (kindOf (2 ^ suc t) mask))
-    + (cutsOf k plan t (2 * p) (take (2 ^ t) mask) + cutsOf k plan t (2 * p + 1) (drop (2 ^ t) mask))
+unfoldable pub cutsBy : Naming → Kind → List ℕ → ℕ → ℕ → List ℕ → ℕ
+cutsBy name k plan zero p mask = bit (isCut plan p && isKind k (name 1 mask))
+cutsBy name k plan (suc t) p mask =
+    bit (isCut plan p && isKind k (name (2 ^ suc t) mask))
+    + (cutsBy name k plan t (2 * p) (take (2 ^ t) mask) + cutsBy name k plan t (2 * p + 1) (drop (2 ^ t) mask))
 
--- counts by kind, in table order
+abbrev pub cutsOf : Kind → List ℕ → ℕ → ℕ → List ℕ → ℕ
+cutsOf k plan t p mask = cutsBy kindOf k plan t p mask
+
+-- counts by kind, in the order of the kinds
 unfoldable pub counts : List ℕ → ℕ → List ℕ → List ℕ
 counts plan n mask = map (λ k. cutsOf k plan n 1 mask) order
 

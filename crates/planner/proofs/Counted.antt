@@ -13,7 +13,7 @@ use lib.Pow.{pow-pos, pow-mono}
 use lib.Seq.{getD-set-same, getD-set-other, set-out, take-all}
 use Rattle.model.specs.Lists.{bit, tabulate}
 use Rattle.model.specs.Kinds.{Kind, order, row, isSome, isKind, kindOf}
-use Rattle.model.specs.Plans.{isCut, noCut, cutsOf, counts, plannerPlan}
+use Rattle.model.specs.Plans.{isCut, noCut, cutsOf, cutsBy, counts, plannerPlan}
 use Rattle.model.proofs.Lists.{cond-both, true-T, and-l, and-r}
 use Rattle.model.proofs.Planner.{Chosen, planner-chosen}
 use Rattle.kinds.specs.Runs.{rowOf}
@@ -65,7 +65,7 @@ counted-le (suc t) mask cs j =
 -- ---- the counts of a plan that cuts as the planner does
 module _ (k : Kind) (P : List ℕ) where
   none-of : (t p : ℕ) (mask : List ℕ) → T (noCut P t p) → cutsOf k P t p mask ≡ 0
-  unfolding noCut cutsOf
+  unfolding noCut cutsBy
   none-of zero p mask c = go (isCut P p) c
     where
       go : (b : Bool) → T (not b) → bit (b && isKind k (kindOf 1 mask)) ≡ 0
@@ -82,7 +82,7 @@ module _ (k : Kind) (P : List ℕ) where
       go false c = refl
 
   counted-of : (t p : ℕ) (mask cs : List ℕ) → length cs ≡ length order → Chosen P t p mask → getD (counted t mask cs) (row k) 0 ≡ getD cs (row k) 0 + cutsOf k P t p mask
-  unfolding counted cutsOf
+  unfolding counted cutsBy
   counted-of zero p mask cs h C = rw C (go (kindOf 1 mask))
     where
       go : (o : Option Kind) → getD (cond (isSome o) (noted (rowOf o) cs) cs) (row k) 0 ≡ getD cs (row k) 0 + bit (isSome o && isKind k o)

@@ -11,7 +11,7 @@ use lib.Pow.{pow-pos, pow-mono}
 use lib.Seq.{getD-set-same, getD-set-other, set-append-left, drop-cons, take-add, take-all}
 use Rattle.model.specs.Lists.{tabulate, bit}
 use Rattle.model.specs.Kinds.{kindOf, isSome}
-use Rattle.model.specs.Plans.{cutAt, levels, plannerPlan}
+use Rattle.model.specs.Plans.{cutAt, levels, plannerPlan, plannerBy, levelsBy, cutAtBy}
 use Rattle.model.proofs.Lists.{double, halves}
 use Rattle.model.proofs.Planner.{idx-root, idx-l, idx-r, cutAt-some, cutAt-l, cutAt-r}
 use Rattle.plans.specs.Nodes.{Place}
@@ -83,7 +83,7 @@ zero-r t p plan z d i h l = ap (λ (x : ℕ). getD plan x 0) (sym (idx-r p d i))
 
 -- ---- what `cutAt` says of a node's places
 cutAt-here : (t i : ℕ) (mask : List ℕ) → cutAt t 0 i mask ≡ isSome (kindOf (2 ^ t) mask)
-unfolding cutAt
+unfolding cutAtBy
 cutAt-here zero i mask = refl
 cutAt-here (suc t) i mask = refl
 
@@ -185,7 +185,7 @@ first-two (x ∷ y ∷ r) b h z e = cc
 
 take-levels : (n : ℕ) (mask : List ℕ) (m : ℕ) (l : List ℕ) → 2 ^ suc m ≤ length l → getD l 0 0 ≡ 0
     → ((d i : ℕ) → d ≤ m → i < 2 ^ d → getD l (2 ^ d + i) 0 ≡ bit (cutAt n d i mask)) → take (2 ^ suc m) l ≡ levels n mask m
-unfolding levels
+unfolding levelsBy
 take-levels n mask zero l h z g =
     first-two l (bit (cutAt n 0 0 mask)) h z (g 0 0 zero-le (omega arith))
 take-levels n mask (suc m) l h z g =
@@ -216,7 +216,7 @@ written-append (suc t) p mask a tail h =
     (ap (written t (2 * p + 1) (drop (2 ^ t) mask)) (written-append t (2 * p) (take (2 ^ t) mask) a tail k₁) ∙ written-append t (2 * p + 1) (drop (2 ^ t) mask) half tail k₂)
 
 written-plan : (n : ℕ) (mask : List ℕ) → written n 1 mask (replicate (2 * 2 ^ n) 0) ≡ plannerPlan n mask
-unfolding plannerPlan
+unfolding plannerBy
 written-plan n mask =
     let clear : List ℕ = replicate (2 * 2 ^ n) 0 in
     let full : List ℕ = written n 1 mask clear in

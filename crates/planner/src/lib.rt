@@ -49,7 +49,7 @@ fn write_plan(mask: &[u8], plan: &mut [u8], counts: &mut [u32; KINDS], t: usize,
     write_plan(&mask[h..], plan, counts, u, r);
 }
 
-// What the planner answers: the number, and the counts of cut nodes by kind, in table order.
+// What the planner answers: the number, and the counts of cut nodes by kind, in the kinds' order.
 pub struct Planned {
     pub number: u32,
     pub counts: [u32; KINDS],

@@ -10,7 +10,7 @@ use lib.ListN.{length, take, drop, getD, length-drop}
 use lib.Pow.{pow-pos, pow-mono}
 use lib.Seq.{length-take-le, take-length, take-take, take-add, drop-drop, drop-at}
 use Rattle.model.specs.Kinds.{Kind, kindOf, isSome}
-use Rattle.model.specs.Plans.{isCut, isRate01, cutCycles, edgeCycles, cycles}
+use Rattle.model.specs.Plans.{isCut, isRate01, cutCycles, edgeCycles, cycles, cyclesBy}
 use Rattle.model.proofs.Lists.{cond-both}
 use Rattle.model.proofs.Cycles.{cycles-cut, own-bound}
 use Rattle.model.specs.Lists.{part}
@@ -23,7 +23,7 @@ edge-small : (plan : List ℕ) (m p : ℕ) (mask : List ℕ) → edgeCycles plan
 edge-small plan m p mask = cond-both (λ n. n ≤ 2) (isCut plan p && isRate01 (kindOf m mask)) (omega arith) (omega arith)
 
 cycles-small : (plan : List ℕ) (t p : ℕ) (mask : List ℕ) → cycles plan t p mask + 6 ≤ 8 * 2 ^ t
-unfolding cycles
+unfolding cyclesBy
 cycles-small plan zero p mask = omega (arith, own-bound 1 mask (omega arith))
 cycles-small plan (suc t) p mask =
     cond-both (λ n. n + 6 ≤ 8 * 2 ^ suc t) (isCut plan p)
@@ -81,7 +81,7 @@ module _ {t p b s : ℕ} (mask plan : List ℕ) (h : Span t p b s mask plan) whe
         record {
           met = at-zero (λ t. false ≡ wellMet plan t p here) t z (unfold wellMet in rw uncut);
           cuts = at-zero (λ t. 0 ≡ cutsMet plan t p) t z (unfold cutsMet in rw uncut);
-          own = k ∙ staged cutCycles ∙ at-zero (λ t. cutCycles (kindOf (2 ^ t) here) ≡ cycles plan t p here) t z (unfold cycles in refl);
+          own = k ∙ staged cutCycles ∙ at-zero (λ t. cutCycles (kindOf (2 ^ t) here) ≡ cycles plan t p here) t z (unfold cyclesBy in refl);
           edge = rw uncut;
         }
 
@@ -93,7 +93,7 @@ module _ {t p b s : ℕ} (mask plan : List ℕ) (h : Span t p b s mask plan) whe
         record {
           met = a ∙ ap₂ (λ (x y : Bool). x && y) (A .met) (B .met) ∙ unfold wellMet in rw uncut;
           cuts = n ∙ ap₂ (λ (x y : ℕ). x + y) (A .cuts) (B .cuts) ∙ unfold cutsMet in rw uncut;
-          own = b ∙ ap₂ (λ (x y : ℕ). 2 + x + y) (ap₂ (λ (x y : ℕ). x + y) (A .edge) (B .edge)) (ap₂ (λ (x y : ℕ). x + y) (A .own) (B .own)) ∙ unfold cycles in rw uncut;
+          own = b ∙ ap₂ (λ (x y : ℕ). 2 + x + y) (ap₂ (λ (x y : ℕ). x + y) (A .edge) (B .edge)) (ap₂ (λ (x y : ℕ). x + y) (A .own) (B .own)) ∙ unfold cyclesBy in rw uncut;
           edge = d ∙ rw uncut;
         }
 

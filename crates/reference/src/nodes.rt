@@ -1,6 +1,6 @@
 // Kinds of nodes, plans and cycles: a kind is found by trying the table's patterns position by position, and a plan is judged path
 // by path and node by node.
-// Kinds are numbered in table order from 0, and 8 is none. Node p of a plan has the children 2p and 2p + 1.
+// Kinds are numbered in request No. 4's order from 0, and 8 is none. Node p of a plan has the children 2p and 2p + 1.
 use test_tools::buffers::Bytes;
 use test_tools::numbers::bit_if;
 use test_tools::numbers::both;
@@ -18,10 +18,10 @@ pub fn pattern(kind: u8, size: usize, k: usize) -> bool {
     match kind {
         0 => true,
         1 => false,
-        2 => k < minus(size, 1),
-        3 => k < 1,
-        4 => k < minus(size, 2),
-        5 => k < 2,
+        2 => k < 1,
+        3 => k < minus(size, 1),
+        4 => k < 2,
+        5 => k < minus(size, 2),
         6 => k < minus(size, 3),
         _ => k < 3,
     }
