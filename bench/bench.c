@@ -13,7 +13,8 @@
 #include <string.h>
 #include <time.h>
 
-enum { FRAMES = 16, LIBRARIES = 3, KINDS = RUZNAVO_KINDS };
+// Times are over many different frames, so that no branch is foretold from the frame before; instructions over a few.
+enum { FRAMES = 256, COUNTED = 16, LIBRARIES = 3, KINDS = RUZNAVO_KINDS };
 enum { PROVED, PLAIN, SSE2 };
 
 typedef struct {
@@ -31,7 +32,7 @@ static const library libraries[LIBRARIES] = {
     {"SSE2 C", sse2_decode, NULL, NULL, NULL, NULL},
 };
 
-typedef enum { DECODE, ENCODE, PLAN, SAMPLES, TRANSFORM } routine;
+typedef enum { DECODE, ENCODE, PLAN, SAMPLES, TRANSFORM, CHAIN } routine;
 
 // The planner's plan; one near the leaves, which cuts every node of 2 positions that is of a kind; and the one that cuts
 // the leaves.
@@ -112,6 +113,11 @@ static void call(const test_case *c, int which, int f) {
     case TRANSFORM: o->answer = lib->transform(o->word, n); break;
     case PLAN: o->answer = lib->plan(mask, n, o->plan, 2 * n, o->counts); break;
     case SAMPLES: o->answer = lib->samples(samples[f], n, marks, n, variance, o->llrs, n); break;
+    case CHAIN:
+        lib->samples(samples[f], n, marks, n, variance, o->llrs, n);
+        o->answer = lib->decode(mask, n, plan, 2 * n, c->sweeps, o->llrs, n, o->soft, n, o->hard, n, o->payload, c->k,
+                                o->work, RUZNAVO_MAX_WORK_WORDS);
+        break;
     }
 }
 
@@ -134,34 +140,22 @@ static double now(void) {
     return (double)t.tv_sec * 1e9 + (double)t.tv_nsec;
 }
 
-// Nanoseconds of one call, from several in a row where a call is short.
-static double time_call(const test_case *c, int which, int f) {
-    int repeats = (int)((c->what == DECODE ? 1 : 8) * (1 + 1024 / c->n));
-    double start = now();
-    for (int i = 0; i < repeats; i++) call(c, which, f);
-    return (now() - start) / repeats;
-}
-
-// For each library the mean over the frames of the least time of many rounds.
+// For each library the nanoseconds of a call, from the fastest of many passes over all frames.
 static void measure(const test_case *c, double *mean) {
-    static double least[LIBRARIES][FRAMES];
     double end = now() + 5e8;
     for (int round = 0; round < 20 || now() < end; round++)
-        for (int f = 0; f < FRAMES; f++)
-            for (int which = 0; which < LIBRARIES; which++) {
-                if (!has_routine(c, which)) continue;
-                double t = time_call(c, which, f);
-                if (round == 0 || t < least[which][f]) least[which][f] = t;
-            }
-    for (int which = 0; which < LIBRARIES; which++) {
-        mean[which] = 0;
-        for (int f = 0; f < FRAMES; f++) mean[which] += least[which][f] / FRAMES;
-    }
+        for (int which = 0; which < LIBRARIES; which++) {
+            if (!has_routine(c, which)) continue;
+            double start = now();
+            for (int f = 0; f < FRAMES; f++) call(c, which, f);
+            double pass = (now() - start) / FRAMES;
+            if (round == 0 || pass < mean[which]) mean[which] = pass;
+        }
 }
 
 // A profiler counts instructions inside this function, and lists its calls one by one.
 __attribute__((noinline)) void count_here(const test_case *c, int which) {
-    for (int f = 0; f < FRAMES; f++) call(c, which, f);
+    for (int f = 0; f < COUNTED; f++) call(c, which, f);
 }
 
 static int counting;
@@ -171,7 +165,7 @@ static FILE *instructions;
 static double next_count(void) {
     double total = 0;
     if (instructions && fscanf(instructions, "%lf", &total) != 1) total = 0;
-    return total / FRAMES;
+    return total / COUNTED;
 }
 
 static void print_numbers(const test_case *c, const double *values) {
@@ -238,6 +232,22 @@ static void other_table(void) {
     }
 }
 
+// Front end and decoder, one after the other.
+static void chain_table(void) {
+    heading("Chain: front end and decoder, planner's plan", "code             sweeps");
+    if (!counting) puts("   proved/plain   frames a second   Mbit of payload a second");
+    for (int i = 0; i < 2 * CODES; i++) {
+        test_case c = {CHAIN, codes[i / 2][0], codes[i / 2][1], i % 2 ? 4 : 1, PLANNERS};
+        double mean[LIBRARIES];
+        if (!counting) printf("(%4zu,%3zu) %-10s %4zu", c.n, c.k, "", c.sweeps);
+        run_case(&c, mean);
+        if (!counting)
+            printf("   %12.2f %17.0f %26.1f\n", mean[PROVED] / mean[PLAIN], 1e9 / mean[PROVED],
+                   1e3 * (double)c.k / mean[PROVED]),
+                fflush(stdout);
+    }
+}
+
 static void word_table(void) {
     static const char *const names[] = {"transform", "encoder"};
     heading("Transform and encoder by N, rate 1/2", "routine    N");
@@ -274,6 +284,7 @@ int main(int count, char **words) {
         if (!refuses_rightly(libraries[which].decode))
             return fprintf(stderr, "bench: %s misses a test\n", libraries[which].name), 1;
     decode_table();
+    chain_table();
     other_table();
     word_table();
     growth_table();

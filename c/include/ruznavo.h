@@ -98,7 +98,8 @@ static inline unsigned ruznavo_check(uint64_t answer) { return (unsigned)(answer
 
 /*
  * Received samples to LLRs: 2y / v, rounded to the nearest whole number, halves away from zero, within +-32767.
- *   samples  N received values; one at a punctured or shortened position is not read and may be anything, also a NaN
+ *   samples  N received values; one at a punctured or shortened position has no influence and may be anything, also a
+ *            NaN
  *   marks    N position marks; punctured gives LLR 0, shortened gives 32767
  *   llrs     the first N are written
  * Answers the number: 0, 1, 3, 8, 9 or 11.

@@ -17,5 +17,6 @@ pub mod Signs
 pub mod Bounds
 pub mod Orders
 pub mod FormerCounts
+pub mod Scale
 pub mod Theorems
 pub mod Frames

@@ -1,6 +1,6 @@
 -- The theorems over document 01's definitions, for every N = 2 ^ n, mask, plan, number of sweeps k and list L of LLRs.
 -- The other files of this folder lead to them. Assumes nothing.
-use mathlib.Core.Path.{_≡_, sym, ap}
+use mathlib.Core.Path.{_≡_, sym, ap, _∙_}
 use mathlib.Core.Logic.{_⊎_, inl, inr}
 use mathlib.Core.Bool.{_&&_}
 use mathlib.Core.List.{List, [], _∷_, map}
@@ -13,10 +13,11 @@ use lib.Pow.{pow-mono}
 use Rattle.model.specs.Lists.{atMost}
 use Rattle.model.specs.Soft.{Soft, finite, _at_, plus, maxLlr}
 use Rattle.model.specs.Encoding.{Mask, unfrozen, encode}
-use Rattle.model.specs.Scan.{Tree, message, start, visit, sweeps, scan, decided, decodeScan, SignsOf}
+use Rattle.model.specs.Scan.{Tree, message, start, visit, sweeps, scan, Decoded, decided, decodeScan, SignsOf}
 use Rattle.model.specs.Plans.{oneCut, cutsOfKinds, wellCut, Allowed, leafOnly, walk, walkBy, planned, Agree, Stays, cycles, cyclesBy, plannerPlan, cutsBelow, counts, plannedBy, cutsOfKindsBy, plannerBy}
 use Rattle.model.specs.Kinds.{Kind, order, fits, kindBy, ownCycles, shortcut}
 use Rattle.model.specs.Orders.{former, HasAll, countsBy, cutsWith, moved}
+use Rattle.model.specs.Scale.{scaledAll}
 use Rattle.model.specs.Bounds.{SmallAll, Under, AllUnder, InRange, limit, cap}
 use Rattle.model.proofs.Shortcuts.{sound-start}
 use Rattle.model.proofs.Paths.{wellCut-test, allowed-cuts}
@@ -27,6 +28,7 @@ use Rattle.model.proofs.LeafOnly.{leafOnly-allowed, leafOnly-cycles}
 use Rattle.model.proofs.Signs.{signs-hard, signs-payload, signs-check}
 use Rattle.model.proofs.Orders.{same-message, same-cycles, cuts-by, planner-by, walk-by, planned-by, cycles-by, has-order, has-former}
 use Rattle.model.proofs.FormerCounts.{counts-moved, moved-most}
+use Rattle.model.proofs.Scale.{scan-scaled, decode-scaled}
 use Rattle.model.proofs.Bounds.{within-sweeps, within-start, within-all, within-held, held-sweeps, in-range, soft-under, under-plus, under-mono, cap-limit}
 
 -- ---- 1. Every accepted decode, whichever allowed plan it is given, equals SCAN walked to the last leaf.
@@ -161,3 +163,15 @@ pub counts-from-former : (n : ℕ) (plan mask : List ℕ) → length mask ≡ 2 
     let y : ℕ = cutsWith (1 ∷ 1 ∷ 0 ∷ 0 ∷ []) plan n 1 mask in
     (counts plan n mask ≡ moved x y c) × (x ≤ getD c 2 0) × (y ≤ getD c 4 0)
 counts-from-former n plan mask sized = (counts-moved plan n mask sized, moved-most plan n mask sized .0, moved-most plan n mask sized .1)
+
+-- ---- 6. The scale of the LLRs is the caller's choice, for every c above 0.
+module _ (c : ℕ) (above : 0 < c) where
+  -- SCAN of c times the LLRs has c times the soft values, certain staying certain, and the same hard bits, payload and frozen check.
+  pub decode-on-scale : (n : ℕ) (mask : List ℕ) (L : List Soft) (k : ℕ) → let D = decodeScan n mask L k in
+      decodeScan n mask (scaledAll c L) k ≡ record { soft = scaledAll c (D .soft); hard = D .hard; payload = D .payload; check = D .check }
+  decode-on-scale = decode-scaled c above
+
+  -- So it is along every allowed plan. Cycles do not look at LLRs.
+  pub soft-on-scale : (n : ℕ) (plan mask : List ℕ) → Allowed n plan mask → (L : List Soft) (k : ℕ) → planned plan n mask (scaledAll c L) k ≡ scaledAll c (planned plan n mask L k)
+  soft-on-scale n plan mask A L k =
+      soft-same n plan mask A (scaledAll c L) k ∙ scan-scaled c above n mask L k ∙ ap (scaledAll c) (sym (soft-same n plan mask A L k))

@@ -1,7 +1,8 @@
--- What each case of `Position` stands for in document 01, and the size that one step of the rounding gives. Assumes nothing.
+-- What each case of `Position` stands for in document 01, and what the steps of the conversion give. Assumes nothing.
 use Prim.Native.Nat.{ℕ, min, _*_}
-use mathlib.Core.Bool.{true, false}
-use lib.Ieee.{Float, nan, inf, fin, up, down}
+use mathlib.Core.Bool.{true, false, cond}
+use lib.IntN.{ℤ, pos}
+use lib.Ieee.{Float, nan, inf, fin, up, down, lt, neg}
 use Rattle.model.specs.Soft.{maxLlr}
 use Rattle.model.specs.Samples as model
 use Rattle.model.specs.Samples.{nearestWhole, sent, punctured, shortened}
@@ -13,6 +14,22 @@ positionNamed (Sent y) = sent y
 positionNamed Punctured = punctured
 positionNamed Shortened = shortened
 
+-- ---- the steps of the rounding
+abbrev pub Zero : Float
+Zero = fin false 0 (pos 0)
+
+abbrev pub Top : Float
+Top = fin false maxLlr (pos 0)
+
+unfoldable pub aboveZero : Float → Float
+aboveZero x = cond (lt Zero x) x Zero
+
+unfoldable pub underTop : Float → Float
+underTop x = cond (lt x Top) x Top
+
+unfoldable pub sizeOf : Float → Float
+sizeOf d = cond (lt d Zero) (neg d) d
+
 -- the size of `toLlr` at a value above zero, and 0 at any other
 unfoldable pub wholeOf : Float → ℕ
 wholeOf nan = 0
@@ -20,3 +37,14 @@ wholeOf (inf true) = 0
 wholeOf (inf false) = maxLlr
 wholeOf (fin true m e) = 0
 wholeOf (fin false m e) = min maxLlr (nearestWhole (m * up e) (down e))
+
+-- ---- the steps of one position: its sample, and its LLR where it has none
+unfoldable pub sampleOf : model.Position → Float
+sampleOf (sent y) = y
+sampleOf punctured = Zero
+sampleOf shortened = Zero
+
+unfoldable pub knownLlr : model.Position → ℤ
+knownLlr (sent y) = pos 0
+knownLlr punctured = pos 0
+knownLlr shortened = pos maxLlr

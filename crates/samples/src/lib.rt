@@ -1,14 +1,13 @@
 // The front end: samples, position marks and the noise variance to LLRs.
 ghost use mathlib.Core.Path.{_≡_};
-ghost use mathlib.Core.Bool.{_&&_};
-ghost use Prim.Native.Nat.{_<_, _≤_};
+ghost use mathlib.Core.Bool.{_&&_, cond};
+ghost use Prim.Native.Nat.{_+_, _<_, _≤_};
 ghost use lib.Dec.{leb};
-ghost use lib.ListN.{length, getD};
-ghost use lib.Ieee.{nan};
+ghost use lib.ListN.{length};
 ghost use Rattle.model.specs.Lists.{over};
 ghost use Rattle.model.specs.Samples.{toLlr, llrOf, llrsOf, positionOf, isFinite, isVariance, isReadable, allReadable};
 ghost use Rattle.model.specs.Refusals.{samplesNumber, samplesLlrs};
-ghost use Rattle.samples.specs.Cases.{positionNamed, wholeOf};
+ghost use Rattle.samples.specs.Cases.{positionNamed, aboveZero, underTop, sizeOf, wholeOf, sampleOf, knownLlr};
 
 // A received position.
 pub enum Position {
@@ -22,45 +21,86 @@ pub struct Channel {
     pub variance: f32,
 }
 
+// x where it is above zero, and 0 where it is not or is a NaN.
+fn clamp_low(x: f32) -> f32
+    ensures { λ r. ⌜ r ≡ aboveZero x ⌝ }
+{
+    if x > 0.0 { x } else { 0.0 }
+}
+
+// x where it is below 32767, and 32767 where it is not or is a NaN.
+fn clamp_high(x: f32) -> f32
+    ensures { λ r. ⌜ r ≡ underTop x ⌝ }
+{
+    if x < 32767.0 { x } else { 32767.0 }
+}
+
+// d without its sign.
+fn size(d: f32) -> f32
+    ensures { λ r. ⌜ r ≡ sizeOf d ⌝ }
+{
+    if d < 0.0 { -d } else { d }
+}
+
+// n, or one more where what n was rounded from is not below n + 1 / 2.
+fn half_up(n: u32, below: bool) -> u32
+    requires { ⌜ n < 32768 ⌝ }
+    ensures { λ r. ⌜ r ≡ cond below n (n + 1) ⌝ }
+{
+    if below { n } else { n + 1 }
+}
+
 // The whole number nearest to x, a half going up, and at most 32767; 0 where x is not above zero.
-// Below 32767 the sum x + x is exact, and its whole part, plus one, halved, is that number.
-fn whole(x: f32) -> u64
+// From 8388608 to its double an f32 is a whole number, so the sum with 8388608 rounds c to a whole number t, the nearest one.
+// At a half it can be the lower one: t is one less than asked where c is not below t + 1 / 2.
+fn whole(x: f32) -> u32
     ensures { λ r. ⌜ r ≡ wholeOf x ⌝ }
 {
-    if x > 0.0 {
-        if x < 32767.0 {
-            let w = std::num::truncating_f32_to_u64(x + x);
-            (w + 1) / 2
-        } else {
-            32767
-        }
-    } else {
-        0
-    }
+    let c = clamp_high(clamp_low(x));
+    let t = (c + 8388608.0) - 8388608.0;
+    half_up(t as i32 as u32, c < t + 0.5)
 }
 
 // The LLR of a doubled quotient d: the nearest whole number, halves away from zero, clamped to ±32767.
 pub fn to_llr(d: f32) -> i16
     ensures { λ r. ⌜ r ≡ toLlr d ⌝ }
 {
-    if d < 0.0 {
-        -(whole(-d) as i16)
-    } else {
-        whole(d) as i16
+    let n = whole(size(d));
+    if d < 0.0 { -(n as i16) } else { n as i16 }
+}
+
+// The sample of a sent position, and 0 for another, whose LLR it is not used for.
+fn sample_of(p: Position) -> f32
+    ensures { λ r. ⌜ r ≡ sampleOf (positionNamed p) ⌝ }
+{
+    match p {
+        Position::Sent(y) => y,
+        Position::Punctured => 0.0,
+        Position::Shortened => 0.0,
     }
 }
 
-// The LLR of one position.
+// The LLR of a position that is not sent.
+fn known_llr(p: Position) -> i16
+    ensures { λ r. ⌜ r ≡ knownLlr (positionNamed p) ⌝ }
+{
+    match p {
+        Position::Sent(_) => 0,
+        Position::Punctured => 0,
+        Position::Shortened => 32767,
+    }
+}
+
+// The LLR of one position. That of the sample is worked out before the match, which then only selects: so the loop over the
+// positions compiles to no branch, and to four positions at a time.
 pub fn llr_of(p: Position, channel: Channel) -> i16
     ensures { λ r. ⌜ r ≡ llrOf (channel .variance) (positionNamed p) ⌝ }
 {
+    let q = sample_of(p) / channel.variance;
+    let l = to_llr(q + q);
     match p {
-        Position::Sent(y) => {
-            let q = y / channel.variance;
-            to_llr(q + q)
-        }
-        Position::Punctured => 0,
-        Position::Shortened => 32767,
+        Position::Sent(_) => l,
+        Position::Punctured | Position::Shortened => known_llr(p),
     }
 }
 
@@ -79,18 +119,16 @@ fn variance(v: f32) -> bool
     if finite(v) { v > 0.0 } else { false }
 }
 
-// The position at i, from its mark and its sample. The sample is read only where it was sent.
-fn position_at(marks: &[u8], samples: &[f32], i: usize) -> Position
-    requires { ⌜ (i < length (now marks)) × (i < length (now samples)) ⌝ }
-    ensures { λ r. ⌜ positionNamed r ≡ positionOf (getD (now (marks .entry)) i 0) (getD (now (samples .entry)) i nan) ⌝ }
+// The position with the mark m and the sample y, which is dropped where it was not sent: nothing depends on it there.
+fn position_of(m: u8, y: f32) -> Position
+    ensures { λ r. ⌜ positionNamed r ≡ positionOf m y ⌝ }
 {
-    let m = marks[i];
     if m == 1 {
         Position::Punctured
     } else if m == 2 {
         Position::Shortened
     } else {
-        Position::Sent(samples[i])
+        Position::Sent(y)
     }
 }
 
@@ -105,16 +143,11 @@ fn readable(p: Position) -> bool
     }
 }
 
-// Whether the mark at i is at most 2 and the position readable.
-fn readable_at(marks: &[u8], samples: &[f32], i: usize) -> bool
-    requires { ⌜ (i < length (now marks)) × (i < length (now samples)) ⌝ }
-    ensures { λ r. ⌜ r ≡ (leb (getD (now (marks .entry)) i 0) 2 && isReadable (positionOf (getD (now (marks .entry)) i 0) (getD (now (samples .entry)) i nan))) ⌝ }
+// Whether the mark m is at most 2 and its position readable.
+fn readable_of(m: u8, y: f32) -> bool
+    ensures { λ r. ⌜ r ≡ (leb m 2 && isReadable (positionOf m y)) ⌝ }
 {
-    if marks[i] > 2 {
-        false
-    } else {
-        readable(position_at(marks, samples, i))
-    }
+    inputs::both(m <= 2, readable(position_of(m, y)))
 }
 
 // Whether each mark is at most 2 and each sent sample is finite.
@@ -122,14 +155,13 @@ fn all_readable(marks: &[u8], samples: &[f32]) -> bool
     requires { ⌜ length (now marks) ≡ length (now samples) ⌝ }
     ensures { λ r. ⌜ r ≡ allReadable (now (marks .entry)) (now (samples .entry)) ⌝ }
 {
+    let mut ok = true;
     let mut i = 0;
     while i < marks.len() {
-        if !readable_at(marks, samples, i) {
-            return false;
-        }
+        ok = inputs::both(ok, readable_of(marks[i], samples[i]));
         i += 1;
     }
-    true
+    ok
 }
 
 // One LLR for each position, into the front of llrs.
@@ -139,7 +171,7 @@ fn fill(samples: &[f32], marks: &[u8], channel: Channel, llrs: &mut [i16])
 {
     let mut i = 0;
     while i < samples.len() {
-        llrs[i] = llr_of(position_at(marks, samples, i), channel);
+        llrs[i] = llr_of(position_of(marks[i], samples[i]), channel);
         i += 1;
     }
 }
