@@ -17,7 +17,7 @@ use Rattle.model.specs.Plans.{isCut, noCut, cutsOf, cutsBy, counts, plannerPlan
 use Rattle.model.proofs.Lists.{cond-both, true-T, and-l, and-r}
 use Rattle.model.proofs.Planner.{Chosen, planner-chosen}
 use Rattle.kinds.specs.Runs.{rowOf}
-use Rattle.kinds.proofs.Table.{row-low}
+use Rattle.model.proofs.Orders.{has-order}
 use Rattle.planner.specs.Writing.{noted, counted, Free}
 use Rattle.planner.proofs.Written.{zeros-at, take-tabulate}
 
@@ -26,7 +26,7 @@ noted-at : (k j : Kind) (cs : List ℕ) → length cs ≡ length order → (b : 
     → getD (noted (row j) cs) (row k) 0 ≡ getD cs (row k) 0 + bit b
 noted-at k j cs h true e =
     let q : row k ≡ row j = eqb-true (row k) (row j) e in
-    rw q (getD-set-same cs (row j) (getD cs (row j) 0 + 1) 0 (omega (arith, row-low j)))
+    rw q (getD-set-same cs (row j) (getD cs (row j) 0 + 1) 0 (omega (arith, has-order j)))
 noted-at k j cs h false e = getD-set-other cs (row j) (row k) (getD cs (row j) 0 + 1) 0 (eqb-false (row k) (row j) e) ∙ omega arith
 
 noted-of : (k : Kind) (o : Option Kind) (cs : List ℕ) → length cs ≡ length order → isSome o ≡ true → getD (noted (rowOf o) cs) (row k) 0 ≡ getD cs (row k) 0 + bit (isKind k o)
