@@ -17,6 +17,7 @@ pub mod Signs
 pub mod Bounds
 pub mod Orders
 pub mod FormerCounts
+pub mod CountedCycles
 pub mod Scale
 pub mod Theorems
 pub mod Frames

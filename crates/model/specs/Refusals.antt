@@ -143,6 +143,12 @@ planCounts mask room =
     let n : ℕ = exponent (length mask) in
     accepted (planNumber mask room) (counts (plannerPlan n mask) n mask) (replicate (length order) 0)
 
+-- the cycles of one sweep along the planner's plan
+unfoldable pub planCycles : List ℕ → ℕ → ℕ
+planCycles mask room =
+    let n : ℕ = exponent (length mask) in
+    accepted (planNumber mask room) (cycles (plannerPlan n mask) n 1 mask) 0
+
 -- ---- check of a plan, which decode's tests share
 
 -- the number

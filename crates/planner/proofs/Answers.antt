@@ -9,25 +9,34 @@ use lib.Dec.{eqb, leb}
 use lib.ListN.{length, drop, replicate}
 use Rattle.model.specs.Lists.{over}
 use Rattle.model.specs.Kinds.{order}
-use Rattle.model.specs.Plans.{plannerPlan, counts}
-use Rattle.model.specs.Refusals.{refusal, row-11, exponent, planNumber, planBytes, planCounts}
-use Rattle.model.proofs.Planner.{planner-length}
-use Rattle.planner.specs.Writing.{written, counted}
+use Rattle.model.specs.Encoding.{Mask}
+use Rattle.model.specs.Plans.{plannerPlan, counts, cycles}
+use Rattle.model.specs.Refusals.{refusal, row-11, exponent, planNumber, planBytes, planCounts, planCycles}
+use Rattle.model.proofs.Paths.{allowed-cuts}
+use Rattle.model.proofs.Planner.{planner-length, planner-allowed}
+use Rattle.model.proofs.CountedCycles.{cycles-counted}
+use Rattle.planner.specs.Writing.{written, counted, cyclesFrom}
 use Rattle.inputs.specs.Tests.{MaskTests}
 use Rattle.inputs.proofs.Rows.{mask-refused, mask-accepted}
 use Rattle.planner.proofs.Written.{planned}
 use Rattle.planner.proofs.Counted.{counts-planned}
 
--- the three results
-abbrev Answer : List ℕ → List ℕ → ℕ → List ℕ → List ℕ → Type 0
-Answer mask plan number cs out = ((number ≡ planNumber mask (length plan)) × (cs ≡ planCounts mask (length plan))) × (out ≡ planBytes mask plan)
+-- the four results
+abbrev Answer : List ℕ → List ℕ → ℕ → List ℕ → ℕ → List ℕ → Type 0
+Answer mask plan number cs cycles out =
+    ((number ≡ planNumber mask (length plan)) × (cs ≡ planCounts mask (length plan)) × (cycles ≡ planCycles mask (length plan))) × (out ≡ planBytes mask plan)
 
-refused : (mask plan : List ℕ) (k : ℕ) → planNumber mask (length plan) ≡ k → (k ≡ 0 → ⊥) → Answer mask plan k (replicate (length order) 0) plan
-unfolding planCounts planBytes
-refused mask plan k e n = let z : eqb k 0 ≡ false = ne-eqb k 0 n in ((sym e, rw (e, z)), rw (e, z))
+refused : (mask plan : List ℕ) (k : ℕ) → planNumber mask (length plan) ≡ k → (k ≡ 0 → ⊥) → Answer mask plan k (replicate (length order) 0) 0 plan
+unfolding planCounts planCycles planBytes
+refused mask plan k e n = let z : eqb k 0 ≡ false = ne-eqb k 0 n in ((sym e, rw (e, z), rw (e, z)), rw (e, z))
+
+-- the cycles are those of the planner's plan
+cycles-planned : (n : ℕ) (mask : List ℕ) → Mask n mask → cyclesFrom (counts (plannerPlan n mask) n mask) ≡ cycles (plannerPlan n mask) n 1 mask
+unfolding counts
+cycles-planned n mask M = sym (cycles-counted (plannerPlan n mask) n 1 mask (allowed-cuts n (plannerPlan n mask) mask (planner-allowed n mask M)))
 
 module _ {mask : List ℕ} {number t : ℕ} (plan : List ℕ) (m : MaskTests mask number t) where
-  pub plan-refused : (number ≡ 0 → ⊥) → Answer mask plan number (replicate (length order) 0) plan
+  pub plan-refused : (number ≡ 0 → ⊥) → Answer mask plan number (replicate (length order) 0) 0 plan
   plan-refused h = refused mask plan number (unfold planNumber in mask-refused m (row-11 (2 * length mask) (length plan) ∷ []) h) h
 
   module _ (h : number ≡ 0) where
@@ -36,7 +45,7 @@ module _ {mask : List ℕ} {number t : ℕ} (plan : List ℕ) (m : MaskTests mas
     unfolding planNumber refusal
     number-11 e = mask-accepted m (row-11 (2 * length mask) (length plan) ∷ []) h ∙ rw e
 
-    pub plan-short : length plan < 2 * length mask → Answer mask plan 11 (replicate (length order) 0) plan
+    pub plan-short : length plan < 2 * length mask → Answer mask plan 11 (replicate (length order) 0) 0 plan
     plan-short l = refused mask plan 11 (number-11 (lt-leb (2 * length mask) (length plan) l)) (λ z. omega arith)
 
     -- a zeroed plan with the planner's cuts written into it
@@ -48,11 +57,15 @@ module _ {mask : List ℕ} {number t : ℕ} (plan : List ℕ) (m : MaskTests mas
         ∙ ap (λ (k : ℕ). plannerPlan t mask ++ drop k plan) (sym (planner-length t mask))
 
     pub plan-written : {x y cs : List ℕ} → 2 * length mask ≤ length plan → x ≡ replicate (2 * length mask) 0 ++ drop (2 * length mask) plan → y ≡ written t 1 mask x
-        → cs ≡ counted t mask (replicate (length order) 0) → Answer mask plan 0 cs y
-    unfolding planCounts planBytes
+        → cs ≡ counted t mask (replicate (length order) 0) → Answer mask plan 0 cs (cyclesFrom cs) y
+    unfolding planCounts planCycles planBytes
     plan-written l f g k =
         let z : planNumber mask (length plan) ≡ 0 = number-11 (le-leb (2 * length mask) (length plan) l) in
         let s : t ≡ exponent (length mask) = m .passed h .stage-is in (
-          (sym z, rw z (k ∙ counts-planned t mask ∙ ap (λ (u : ℕ). counts (plannerPlan u mask) u mask) s)),
+          (
+            sym z,
+            rw z (k ∙ counts-planned t mask ∙ ap (λ (u : ℕ). counts (plannerPlan u mask) u mask) s),
+            rw z (ap cyclesFrom (k ∙ counts-planned t mask) ∙ cycles-planned t mask (record { sized = m .passed h .sized; bytes = m .passed h .bytes }) ∙ ap (λ (u : ℕ). cycles (plannerPlan u mask) u 1 mask) s),
+          ),
           rw z (bytes-planned f g ∙ ap (λ (u : ℕ). over (plannerPlan u mask) plan) s),
         )

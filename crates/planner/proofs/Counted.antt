@@ -15,6 +15,7 @@ use Rattle.model.specs.Lists.{bit, tabulate}
 use Rattle.model.specs.Kinds.{Kind, order, row, isSome, isKind, kindOf}
 use Rattle.model.specs.Plans.{isCut, noCut, cutsOf, cutsBy, counts, plannerPlan}
 use Rattle.model.proofs.Lists.{cond-both, true-T, and-l, and-r}
+use Rattle.model.proofs.CountedCycles.{none-of}
 use Rattle.model.proofs.Planner.{Chosen, planner-chosen}
 use Rattle.kinds.specs.Runs.{rowOf}
 use Rattle.model.proofs.Orders.{has-order}
@@ -64,23 +65,6 @@ counted-le (suc t) mask cs j =
 
 -- ---- the counts of a plan that cuts as the planner does
 module _ (k : Kind) (P : List ℕ) where
-  none-of : (t p : ℕ) (mask : List ℕ) → T (noCut P t p) → cutsOf k P t p mask ≡ 0
-  unfolding noCut cutsBy
-  none-of zero p mask c = go (isCut P p) c
-    where
-      go : (b : Bool) → T (not b) → bit (b && isKind k (kindOf 1 mask)) ≡ 0
-      go true c = absurd c
-      go false c = refl
-  none-of (suc t) p mask c =
-      let below : T (noCut P t (2 * p) && noCut P t (2 * p + 1)) = and-r (not (isCut P p)) (noCut P t (2 * p) && noCut P t (2 * p + 1)) c in
-      let l : cutsOf k P t (2 * p) (take (2 ^ t) mask) ≡ 0 = none-of t (2 * p) (take (2 ^ t) mask) (and-l (noCut P t (2 * p)) (noCut P t (2 * p + 1)) below) in
-      let r : cutsOf k P t (2 * p + 1) (drop (2 ^ t) mask) ≡ 0 = none-of t (2 * p + 1) (drop (2 ^ t) mask) (and-r (noCut P t (2 * p)) (noCut P t (2 * p + 1)) below) in
-      rw (l, r) (go (isCut P p) (and-l (not (isCut P p)) (noCut P t (2 * p) && noCut P t (2 * p + 1)) c))
-    where
-      go : (b : Bool) → T (not b) → bit (b && isKind k (kindOf (2 ^ suc t) mask)) + 0 ≡ 0
-      go true c = absurd c
-      go false c = refl
-
   counted-of : (t p : ℕ) (mask cs : List ℕ) → length cs ≡ length order → Chosen P t p mask → getD (counted t mask cs) (row k) 0 ≡ getD cs (row k) 0 + cutsOf k P t p mask
   unfolding counted cutsBy
   counted-of zero p mask cs h C = rw C (go (kindOf 1 mask))
@@ -104,7 +88,7 @@ module _ (k : Kind) (P : List ℕ) where
       go true e il ir =
           let below : T (noCut P t (2 * p) && noCut P t (2 * p + 1)) = C .0 e .1 in
           rw (C .0 e .0)
-          (omega (arith, noted-of k (kindOf (2 ^ suc t) mask) cs h e, none-of t (2 * p) (take (2 ^ t) mask) (and-l (noCut P t (2 * p)) (noCut P t (2 * p + 1)) below), none-of t (2 * p + 1) (drop (2 ^ t) mask) (and-r (noCut P t (2 * p)) (noCut P t (2 * p + 1)) below)))
+          (omega (arith, noted-of k (kindOf (2 ^ suc t) mask) cs h e, none-of P k t (2 * p) (take (2 ^ t) mask) (and-l (noCut P t (2 * p)) (noCut P t (2 * p + 1)) below), none-of P k t (2 * p + 1) (drop (2 ^ t) mask) (and-r (noCut P t (2 * p)) (noCut P t (2 * p + 1)) below)))
       go false e il ir =
           rw (C .1 e .0) (omega (arith, il (C .1 e .1), ir (C .1 e .2)))
 

@@ -1,5 +1,5 @@
 -- What the planner's recursion writes and counts at a node. Assumes nothing.
-use Prim.Native.Nat.{ℕ, zero, suc, _+_, _*_, _^_, _≤_}
+use Prim.Native.Nat.{ℕ, zero, suc, _+_, _*_, _-_, _^_, _≤_}
 use mathlib.Core.Bool.{cond}
 use mathlib.Core.List.{List}
 use lib.ListN.{take, drop, set, getD}
@@ -23,6 +23,11 @@ counted zero mask cs = cond (isSome (kindOf 1 mask)) (noted (rowOf (kindOf 1 mas
 counted (suc t) mask cs =
     let below : List ℕ = counted t (drop (2 ^ t) mask) (counted t (take (2 ^ t) mask) cs) in
     cond (isSome (kindOf (2 ^ suc t) mask)) (noted (rowOf (kindOf (2 ^ suc t) mask)) cs) below
+
+-- the cycles of one sweep, from the counts of cut nodes: 4 for each of no own cycles, 8 for each of 2 and 10 for each of 4, less 6
+abbrev pub cyclesFrom : List ℕ → ℕ
+cyclesFrom c =
+    4 * (getD c 0 0 + getD c 1 0) + 8 * (getD c 2 0 + getD c 3 0 + (getD c 4 0 + getD c 5 0)) + 10 * (getD c 6 0 + getD c 7 0) - 6
 
 -- each count can take the cuts of a node of stage t
 pub record Free (t : ℕ) (cs : List ℕ) : Type 0 where

@@ -6,11 +6,11 @@ use kinds::kind_of;
 use kinds::table_row;
 ghost use mathlib.Core.Path.{_≡_};
 ghost use mathlib.Core.List.{_++_};
-ghost use Prim.Native.Nat.{_≤_};
-ghost use lib.ListN.{length, drop, replicate};
-ghost use Rattle.model.specs.Refusals.{planNumber, planBytes, planCounts};
+ghost use Prim.Native.Nat.{ℕ, _≤_};
+ghost use lib.ListN.{length, getD, drop, replicate};
+ghost use Rattle.model.specs.Refusals.{planNumber, planBytes, planCounts, planCycles};
 ghost use Rattle.plans.specs.Nodes.{Node};
-ghost use Rattle.planner.specs.Writing.{written, counted, Free};
+ghost use Rattle.planner.specs.Writing.{written, counted, cyclesFrom, Free};
 
 // Sets the first bytes to 0, as many as `count` says.
 fn zero_front(plan: &mut [u8], count: usize)
@@ -49,15 +49,28 @@ fn write_plan(mask: &[u8], plan: &mut [u8], counts: &mut [u32; KINDS], t: usize,
     write_plan(&mask[h..], plan, counts, u, r);
 }
 
-// What the planner answers: the number, and the counts of cut nodes by kind, in the kinds' order.
+// The cycles of one sweep along a plan, from the counts of its cut nodes.
+fn cycles_from(c: [u32; KINDS]) -> u32
+    requires { ⌜ ((i : ℕ) → getD c i 0 ≤ 65536) ⌝ }
+    ensures { λ r. ⌜ r ≡ cyclesFrom c ⌝ }
+{
+    let fixed = c[0] + c[1];
+    let two = c[2] + c[3] + (c[4] + c[5]);
+    let four = c[6] + c[7];
+    let all = 4 * fixed + 8 * two + 10 * four;
+    if all < 6 { 0 } else { all - 6 }
+}
+
+// What the planner answers: the number, the counts of cut nodes by kind, in the kinds' order, and the cycles of one sweep.
 pub struct Planned {
     pub number: u32,
     pub counts: [u32; KINDS],
+    pub cycles: u32,
 }
 
 // Writes the plan that cuts each node of a kind that has no such node above it.
 pub fn plan_mask(mask: &[u8], plan: &mut [u8]) -> Planned
-    ensures { λ r. ⌜ (r .number ≡ planNumber (now (mask .entry)) (length (now (plan .entry)))) × (r .counts ≡ planCounts (now (mask .entry)) (length (now (plan .entry)))) ⌝ }
+    ensures { λ r. ⌜ (r .number ≡ planNumber (now (mask .entry)) (length (now (plan .entry)))) × (r .counts ≡ planCounts (now (mask .entry)) (length (now (plan .entry)))) × (r .cycles ≡ planCycles (now (mask .entry)) (length (now (plan .entry)))) ⌝ }
     ensures { λ _. ⌜ now (plan .exit) ≡ planBytes (now (mask .entry)) (now (plan .entry)) ⌝ }
 {
     let mut counts = [0u32; KINDS];
@@ -66,13 +79,23 @@ pub fn plan_mask(mask: &[u8], plan: &mut [u8]) -> Planned
         return Planned {
             number: masked.number,
             counts,
+            cycles: 0,
         };
     }
     let size = 2 * mask.len();
     if plan.len() < size {
-        return Planned { number: 11, counts };
+        return Planned {
+            number: 11,
+            counts,
+            cycles: 0,
+        };
     }
     zero_front(plan, size);
     write_plan(mask, plan, &mut counts, masked.stage, 1);
-    Planned { number: 0, counts }
+    let cycles = cycles_from(counts);
+    Planned {
+        number: 0,
+        counts,
+        cycles,
+    }
 }

@@ -3,21 +3,14 @@ use mathlib.Core.Path.{_≡_}
 use mathlib.Core.List.{List}
 use Prim.Native.Nat.{ℕ, _+_, _*_, _^_}
 use lib.ListN.{length}
-use Rattle.model.specs.Plans.{cycles, plannerPlan}
-use Rattle.model.specs.Refusals.{exponent, accepted, planNumber, planCounts, checkNumber, checkCycles, decodeNumber, decodeCycles, decodeCheck}
+use Rattle.model.specs.Refusals.{accepted, planNumber, planCounts, planCycles, checkNumber, checkCycles, decodeNumber, decodeCycles, decodeCheck}
 use Rattle.decode.specs.Calls.{Lent, Given, callOf, Left}
 
 -- a check of a plan: number + 256 × cycles of one sweep
 abbrev pub CheckAnswer : List ℕ → List ℕ → ℕ → Type 0
 CheckAnswer mask plan r = r ≡ checkNumber mask plan + 256 * checkCycles mask plan
 
--- cycles of one sweep along the planner's plan; room is the length of the plan buffer
-unfoldable pub planCycles : List ℕ → ℕ → ℕ
-planCycles mask room =
-    let n : ℕ = exponent (length mask) in
-    accepted (planNumber mask room) (cycles (plannerPlan n mask) n 1 mask) 0
-
--- the planner: number + 256 × cycles of one sweep
+-- the planner: number + 256 × cycles of one sweep; room is the length of the plan buffer
 abbrev pub PlanAnswer : List ℕ → ℕ → ℕ → Type 0
 PlanAnswer mask room r = r ≡ planNumber mask room + 256 * planCycles mask room
 
