@@ -2,7 +2,7 @@
 use mathlib.Core.Path.{_≡_}
 use mathlib.Core.List.{List}
 use Prim.Native.Nat.{ℕ, zero, suc, _+_, _*_, _≤_, _<_}
-use lib.IntN.{ℤ, pos, natAbs}
+use lib.IntN.{ℤ, pos, negsuc, natAbs}
 use lib.ListN.{getD, set}
 use Rattle.model.specs.Lists.{tabulate}
 use Rattle.model.specs.Soft.{Soft, _at_, box, plus, mark, wordOf, softOf}
@@ -13,6 +13,11 @@ boxWord a b = wordOf (box (softOf a) (softOf b))
 
 unfoldable pub addWord : ℤ → ℤ → ℤ
 addWord a b = wordOf (plus (softOf a) (softOf b))
+
+-- -1 - z
+abbrev pub flip : ℤ → ℤ
+flip (pos n) = negsuc n
+flip (negsuc n) = pos n
 
 -- any 32-bit number but the least
 abbrev pub Word : ℤ → Type 0

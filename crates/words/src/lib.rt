@@ -5,7 +5,7 @@ ghost use Prim.Native.Nat.{_+_, _<_, _≤_};
 ghost use lib.IntN.{pos, natAbs, negℤ, _-ℤ_};
 ghost use lib.Signed.{ltZ};
 ghost use lib.ListN.{length};
-ghost use Rattle.words.specs.Words.{boxWord, addWord, Word, Added, word, write, four, Finite};
+ghost use Rattle.words.specs.Words.{boxWord, addWord, flip, Word, Added, word, write, four, Finite};
 
 // The word that stands for certain, and its size.
 pub const MARK: i32 = 2147483647;
@@ -50,14 +50,23 @@ pub fn with_sign(neg: bool, m: i32) -> i32
     if neg { -m } else { m }
 }
 
-// box of two words: the smaller of the two, both negated if their sum is negative. The mark is larger than every finite size, so box(a, ∞) = a needs no test.
+// -1 - x if neg, else x. Every number has its own, and they are in the opposite order.
+pub fn flipped(neg: bool, x: i32) -> i32
+    ensures { λ r. ⌜ r ≡ cond neg (flip x) x ⌝ }
+{
+    if neg { -1 - x } else { x }
+}
+
+// box of two words: the smaller of the two, both negated if their sum is negative. A negation is -1 less the number, plus 1, and the 1 is added once, after
+// the smaller is found. The mark is larger than every finite size, so box(a, ∞) = a needs no test.
 pub fn box_words(a: i32, b: i32) -> i32
     requires { ⌜ Word a ⌝ }
     requires { ⌜ Word b ⌝ }
     ensures { λ r. ⌜ r ≡ boxWord a b ⌝ }
 {
     let neg = a < -b;
-    min_word(with_sign(neg, a), with_sign(neg, b))
+    let m = min_word(flipped(neg, a), flipped(neg, b));
+    if neg { m + 1 } else { m }
 }
 
 // x if b, else y
