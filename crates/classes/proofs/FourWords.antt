@@ -13,7 +13,7 @@ use mir.Val.{SFits, Fits}
 use borrow.Author.Tests.{ltb-true, ltb-false, le-ltb}
 use Rattle.model.specs.Soft.{mark, negative, differ}
 use Rattle.model.proofs.Algebra.{differ-assoc}
-use Rattle.words.specs.Words.{Word}
+use Rattle.words.specs.Words.{Word, flip}
 use Rattle.classes.specs.declared.Gathered.{Gathered}
 use Rattle.classes.specs.LeastSizes.{least, next, parity}
 use Rattle.classes.specs.Folds.{fourList, keepSign}
@@ -65,21 +65,12 @@ parity-of-four a b c d =
     ∙ ap (λ (t : Bool). differ (negative a) (differ (negative b) (differ (negative c) t))) (sym (differ-false (negative d)))
 
 -- ---- a size with a sign
-pub flip-yes : (z : ℤ) → negative z ≡ true → negsuc 0 -ℤ z ≡ pos (mag z)
-flip-yes (pos n) e = absurd (subst T (sym e) tt)
-flip-yes (negsuc n) e = rw (le-ltb (suc n) 1 (omega arith)) (ap pos (omega arith))
-
-pub flip-no : (z : ℤ) → negative z ≡ false → negsuc 0 -ℤ z ≡ negsuc (natAbs z)
-flip-no (pos zero) e = refl
-flip-no (pos (suc n)) e = ap negsuc (omega arith)
-flip-no (negsuc n) e = absurd (subst T e tt)
-
-pub flip-fits : (z : ℤ) → SFits w32 z → SFits w32 (negsuc 0 -ℤ z)
-flip-fits (pos n) h = rw (flip-no (pos n) refl) (record { sfits = h .sfits })
-flip-fits (negsuc n) h = rw (flip-yes (negsuc n) refl) (record { sfits = h .sfits })
-
 pub pos-fits : (n : ℕ) → n < 2 ^ 31 → T (nonNeg (pos n)) × Fits w32 n
 pos-fits n h = let g : n < 2 ^ 32 = omega arith in (tt, record { fits = g })
+
+pub size-flipped : (z : ℤ) → cond (negative z) (flip z) z ≡ pos (mag z)
+size-flipped (pos n) = refl
+size-flipped (negsuc n) = refl
 
 pub size-no : (z : ℤ) → negative z ≡ false → z ≡ pos (mag z)
 size-no (pos n) e = refl

@@ -1,9 +1,9 @@
 -- A list whose four quarters are folded into one, as the loops over large nodes use it. Assumes nothing.
-use mathlib.Core.Bool.{Bool, true, false}
+use mathlib.Core.Bool.{Bool, cond}
 use mathlib.Core.List.{List, [], _∷_}
 use Prim.Native.Nat.{ℕ, _+_, _*_}
-use lib.IntN.{ℤ, pos, negsuc}
-use Rattle.words.specs.Words.{word}
+use lib.IntN.{ℤ, pos}
+use Rattle.words.specs.Words.{word, flip}
 use Rattle.classes.specs.LeastSizes.{least, next, parity}
 
 -- a list of four numbers
@@ -16,8 +16,7 @@ column l q k = fourList (word l k) (word l (q + k)) (word l (2 * q + k)) (word l
 
 -- a size with a sign in one number: -1 - n for a negative one, so that 0 has both signs
 abbrev pub keepSign : Bool → ℕ → ℤ
-keepSign false n = pos n
-keepSign true n = negsuc n
+keepSign neg n = cond neg (flip (pos n)) (pos n)
 
 -- what is kept of a column: its least size, and the next one with the product of the signs
 abbrev pub lowAt : List ℤ → ℕ → ℕ → ℤ

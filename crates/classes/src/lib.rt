@@ -2,6 +2,7 @@
 // equal modulo a period p.
 use words::MARK_SIZE;
 use words::abs_word;
+use words::flipped;
 use words::max_word;
 use words::min_word;
 use words::size_word;
@@ -9,14 +10,14 @@ ghost use mathlib.Core.Path.{_≡_};
 ghost use mathlib.Core.Bool.{false};
 ghost use mathlib.Core.List.{List};
 ghost use Prim.Native.Nat.{ℕ, _+_, _*_, _%_, _<_, _≤_, min, max};
-ghost use lib.IntN.{ℤ, pos, natAbs};
+ghost use lib.IntN.{ℤ, pos};
 ghost use lib.Signed.{mag};
 ghost use lib.ListN.{length, drop};
 ghost use Rattle.model.specs.Soft.{mark, negative};
 ghost use Rattle.words.specs.Words.{Word, word, write, Words, Holds};
 ghost use Rattle.classes.specs.Sums.{Period, strided, sizes, sumOf, totalsOf};
 ghost use Rattle.classes.specs.LeastSizes.{least, next, parity, withValue, gatherClass, gatherAll, byTurns};
-ghost use Rattle.classes.specs.Folds.{fourList, keepSign, lowAt, highAt};
+ghost use Rattle.classes.specs.Folds.{fourList, lowAt, highAt};
 
 fn min_size(a: u32, b: u32) -> u32
     ensures { λ r. ⌜ r ≡ min a b ⌝ }
@@ -194,19 +195,11 @@ fn parity_of(a: i32, b: i32, c: i32, d: i32) -> bool
     ((a < 0) != (b < 0)) != ((c < 0) != (d < 0))
 }
 
-// The size n with a sign: -1 - n if neg, else n.
-fn keep_sign(neg: bool, n: i32) -> i32
-    requires { ⌜ negative n ≡ false ⌝ }
-    ensures { λ r. ⌜ r ≡ keepSign neg (natAbs n) ⌝ }
-{
-    if neg { -1 - n } else { n }
-}
-
 // The size that was kept with a sign.
 fn kept_size(x: i32) -> u32
     ensures { λ r. ⌜ r ≡ mag x ⌝ }
 {
-    if x < 0 { (-1 - x) as u32 } else { x as u32 }
+    flipped(x < 0, x) as u32
 }
 
 // Folds the four quarters of the list at x, each of q words: w[m + k] is the least size at place k of the quarters, and w[m + q + k] the next one with the product of the signs.
@@ -226,7 +219,7 @@ pub fn fold(w: &mut [i32], m: usize, x: usize, q: usize)
         let c = w[x2 + k];
         let d = w[x3 + k];
         let low = least_of(a, b, c, d);
-        let high = keep_sign(parity_of(a, b, c, d), next_of(a, b, c, d));
+        let high = flipped(parity_of(a, b, c, d), next_of(a, b, c, d));
         w[m + k] = low;
         w[next + k] = high;
         k += 1;

@@ -1,17 +1,17 @@
 -- `classes::fold` meets its contract. The loop's invariant: the first k values of both runs are stored. Assumes nothing.
 use mathlib.Core.Path.{_≡_, refl, ap, ap₂, _∙_}
-use mathlib.Core.Bool.{Bool}
+use mathlib.Core.Bool.{Bool, cond}
 use mathlib.Core.List.{List}
 use Prim.Native.Nat.{ℕ, _+_, _-_, _*_, _≤_, _<_}
 use native.Mathlib.Nat.{le-antisymm}
 use native.Mathlib.Omega.{arith}
-use lib.IntN.{ℤ, pos, natAbs}
+use lib.IntN.{ℤ, pos}
 use lib.ListN.{length, drop, length-set}
 use lib.Seq.{getD-drop}
 use mir.Val.{toZ, ofZ}
 use mir.Syntax.{w32}
-use Rattle.model.specs.Soft.{negative}
-use Rattle.words.specs.Words.{Word, word, write}
+use borrow.Author.Needs.{needs}
+use Rattle.words.specs.Words.{Word, flip, word, write}
 use Rattle.classes.specs.LeastSizes.{least, next, parity}
 use Rattle.classes.specs.Folds.{fourList, column, keepSign, lowAt, highAt}
 use Rattle.words.proofs.Signed.{back}
@@ -89,8 +89,8 @@ least-of-requires c κs = four-words c
 next-of-requires : tie.Need-next-of-requires Inv-loop μ-loop
 next-of-requires c κs = four-words (c .before .before)
 
-keep-sign-requires : tie.Need-keep-sign-requires Inv-loop μ-loop
-keep-sign-requires c κs = ap negative (back (c .next-of .ok) ∙ c .next-of .ensures)
+flipped-requires : tie.Need-flipped-requires Inv-loop μ-loop
+flipped-requires c κs = search needs
 
 slice-set-from-high : tie.Need-slice-set-from-high Inv-loop μ-loop
 slice-set-from-high c = simp length-set (omega arith)
@@ -104,8 +104,8 @@ loop-again c =
       omega arith,
       store-both (pos 0) (a .w .now) (b .loop .w) (a .m) (a .q) (b .loop .k) _ _ (lowAt l (a .q)) (highAt l (a .q)) (at-d .before .before .before .before .loop-test .taken) (b .loop .inv .1)
           (back (c .before .before .before .least-of .ok) ∙ c .before .before .before .least-of .ensures ∙ ap (λ (v : List ℤ). pos (least v)) (column-is at-d))
-          (back (c .keep-sign .ok) ∙ c .keep-sign .ensures
-          ∙ ap₂ (λ (neg : Bool) (z : ℤ). keepSign neg (natAbs z)) (c .before .before .parity-of .ensures) (back (c .before .next-of .ok) ∙ c .before .next-of .ensures)
+          (back (c .flipped .ok) ∙ c .flipped .ensures
+          ∙ ap₂ (λ (neg : Bool) (z : ℤ). cond neg (flip z) z) (c .before .before .parity-of .ensures) (back (c .before .next-of .ok) ∙ c .before .next-of .ensures)
           ∙ ap (λ (v : List ℤ). keepSign (parity v) (next v)) (column-is at-d)),
       simp length-set (b .loop .inv .2),
     )
@@ -134,7 +134,7 @@ fold-spec =
     least-of-requires
     (λ c κs. omega arith)
     next-of-requires
-    keep-sign-requires
+    flipped-requires
     (λ c. omega arith) (λ c. omega arith) (λ c. omega arith) (λ c. omega arith) (λ c. omega arith)
     slice-set-from-high
     (λ c. omega arith) (λ c. omega arith)
