@@ -1,5 +1,5 @@
 -- What the loops read, and the right child's incoming list: boxes first, and then the part that starts at c is added to them. Assumes nothing.
-use mathlib.Core.Path.{_≡_, sym, ap, ap₂, _∙_, subst, subst₂}
+use mathlib.Core.Path.{_≡_, refl, sym, ap, ap₂, _∙_, subst, subst₂}
 use mathlib.Core.Logic.{⊎-elim}
 use lib.IntN.{ℤ, pos}
 use mathlib.Core.List.{List}
@@ -12,10 +12,10 @@ use lib.Signed.{mag}
 use mir.Val.{toZ, ofZ}
 use mir.Syntax.{w32}
 use Rattle.words.specs.Words.{Word, word, write, boxWord, addWord, Added, Finite}
-use Rattle.halves.specs.Halves.{Apart, Sources, boxAt, boxPlus, plusBox, plusFront, leftAt, rightAt, LeftAt, RightAt}
+use Rattle.halves.specs.Halves.{Apart, Held, Sources, boxAt, boxPlus, plusBox, plusFront, leftAt, rightAt, LeftPlace, RightPlace, LeftAt, RightAt}
 use Rattle.words.proofs.Signed.{back}
 use Rattle.words.proofs.Loops.{Stored}
-use Rattle.words.proofs.Store.{length-write, write-in, write-below, write-ext, write-over, write-mid, getD-mid, source-above, source-below}
+use Rattle.words.proofs.Store.{store-none, store-next, length-write, write-in, write-below, write-ext, write-over, write-mid, getD-mid, source-above, source-below}
 
 -- word i of a source that shares no word with what a loop stores
 module _ {w₀ w : List ℤ} {d h k : ℕ} {f : ℕ → ℤ} (s : Stored w₀ d h f k w) where
@@ -32,50 +32,65 @@ module _ {w₀ w : List ℤ} {d h k : ℕ} {f : ℕ → ℤ} (s : Stored w₀ d 
 abbrev pub from : ℕ → List ℤ → List ℤ
 from b w = midOf b (length w - b) w
 
--- place i of three sources, one of them a part of its own, while a loop stores: what is asked there, and what is found
-module _ {w₀ w : List ℤ} {d a b c h k : ℕ} {f : ℕ → ℤ} (src : Sources w₀ d a b c h) (s : Stored w₀ d h f k w) (i : ℕ) (lt : i < h) where
-  at-a : word w (a + i) ≡ word w₀ (a + i)
-  at-a = same s i a lt (src .apart .0)
+in-part : (w : List ℤ) (e i : ℕ) → e + i < length w → word (from e w) i ≡ word w (e + i)
+in-part w e i lt = getD-mid (pos 0) w e (length w - e) i (omega arith)
 
-  at-b : word w (b + i) ≡ word w₀ (b + i)
-  at-b = same s i b lt (src .apart .1)
+part-long : (w : List ℤ) (e i : ℕ) → e + i < length w → i < length (from e w)
+part-long w e i lt = omega (arith, length-take-le (length w - e) (drop e w) (omega (arith, length-drop e w)))
 
-  at-c : word w (c + i) ≡ word w₀ (c + i)
-  at-c = same s i c lt (src .apart .2)
+-- place i of three sources, one of them a part of its own: what is asked there, and what is found
+module _ {w : List ℤ} {d a b c h : ℕ} (src : Held w d a b c h) (i : ℕ) (lt : i < h) where
+  pub left-asked : LeftPlace w a b c i → LeftAt w (from b w) a c i
+  left-asked place = record {
+    there = (omega (arith, src .fit), omega (arith, src .fit), part-long w b i (omega (arith, src .fit)));
+    first = place .0;
+    sum = subst (λ (z : ℤ). Added z (word w (c + i))) (sym (in-part w b i (omega (arith, src .fit)))) (place .1);
+  }
 
-  in-part : (e : ℕ) → e + h ≤ length w → word (from e w) i ≡ word w (e + i)
-  in-part e fit = getD-mid (pos 0) w e (length w - e) i (omega arith)
+  pub left-found : leftAt w (from b w) a c i ≡ boxPlus w a b c i
+  left-found = ap (λ (z : ℤ). boxWord (word w (a + i)) (addWord z (word w (c + i)))) (in-part w b i (omega (arith, src .fit)))
 
-  part-long : (e : ℕ) → e + h ≤ length w → i < length (from e w)
-  part-long e fit = omega (arith, length-take-le (length w - e) (drop e w) (omega (arith, length-drop e w)))
+  pub right-asked : RightPlace w a b c i → RightAt w (from c w) a b i
+  right-asked place = record {
+    there = (omega (arith, src .fit), omega (arith, src .fit), part-long w c i (omega (arith, src .fit)));
+    first = place .0;
+    message = place .1;
+    sum = subst (Finite (boxAt w a b i)) (sym (in-part w c i (omega (arith, src .fit)))) (place .2);
+  }
 
-  fits : (a + h ≤ length w) × (b + h ≤ length w) × (c + h ≤ length w)
-  fits = let fit = src .fit in let long = s .long in (omega arith, omega arith, omega arith)
+  pub right-found : rightAt w (from c w) a b i ≡ plusBox w a b c i
+  right-found = ap (addWord (boxAt w a b i)) (in-part w c i (omega (arith, src .fit)))
 
-  pub left-asked : Word (word w₀ (a + i)) → Added (word w₀ (b + i)) (word w₀ (c + i)) → LeftAt w (from b w) a c i
-  left-asked first sum =
-      let fit = fits in
-      record {
-        there = (omega arith, omega arith, part-long b (fits .1));
-        first = subst Word (sym at-a) first;
-        sum = subst₂ Added (sym (in-part b (fits .1) ∙ at-b)) (sym at-c) sum;
-      }
+-- place i of three sources, while a loop stores elsewhere: what a place requires, and what it holds, is as at the start
+module _ {w₀ w : List ℤ} {d a b c h k : ℕ} {f : ℕ → ℤ} (src : Sources w₀ d a b c h) (s : Stored w₀ d h f k w) where
+  pub held : (m : ℕ) → m ≤ h → Held w d a b c m
+  held m le = let fit = src .held .fit in let long = s .long in record { fit = (omega arith, omega arith, omega arith, omega arith) }
 
-  pub left-found : leftAt w (from b w) a c i ≡ boxPlus w₀ a b c i
-  left-found = ap₂ boxWord at-a (ap₂ addWord (in-part b (fits .1) ∙ at-b) at-c)
+  module _ (i : ℕ) (lt : i < h) where
+    at-a : word w (a + i) ≡ word w₀ (a + i)
+    at-a = same s i a lt (src .apart .0)
 
-  pub right-asked : Word (word w₀ (a + i)) → Word (word w₀ (b + i)) → Finite (boxAt w₀ a b i) (word w₀ (c + i)) → RightAt w (from c w) a b i
-  right-asked first message sum =
-      let fit = fits in
-      record {
-        there = (omega arith, omega arith, part-long c (fits .2));
-        first = subst Word (sym at-a) first;
-        message = subst Word (sym at-b) message;
-        sum = subst₂ Finite (sym (ap₂ boxWord at-a at-b)) (sym (in-part c (fits .2) ∙ at-c)) sum;
-      }
+    at-b : word w (b + i) ≡ word w₀ (b + i)
+    at-b = same s i b lt (src .apart .1)
 
-  pub right-found : rightAt w (from c w) a b i ≡ plusBox w₀ a b c i
-  right-found = ap₂ addWord (ap₂ boxWord at-a at-b) (in-part c (fits .2) ∙ at-c)
+    at-c : word w (c + i) ≡ word w₀ (c + i)
+    at-c = same s i c lt (src .apart .2)
+
+    pub left-place : Word (word w₀ (a + i)) → Added (word w₀ (b + i)) (word w₀ (c + i)) → LeftPlace w a b c i
+    left-place first sum = (subst Word (sym at-a) first, subst₂ Added (sym at-b) (sym at-c) sum)
+
+    pub left-same : boxPlus w a b c i ≡ boxPlus w₀ a b c i
+    left-same = ap₂ boxWord at-a (ap₂ addWord at-b at-c)
+
+    pub right-place : Word (word w₀ (a + i)) → Word (word w₀ (b + i)) → Finite (boxAt w₀ a b i) (word w₀ (c + i)) → RightPlace w a b c i
+    right-place first message sum = (subst Word (sym at-a) first, subst Word (sym at-b) message, subst₂ Finite (sym (ap₂ boxWord at-a at-b)) (sym at-c) sum)
+
+    pub right-same : plusBox w a b c i ≡ plusBox w₀ a b c i
+    right-same = ap₂ addWord (ap₂ boxWord at-a at-b) at-c
+
+-- four places from the first on are all of four
+pub all-four : (w : List ℤ) (d h : ℕ) (f : ℕ → ℤ) → h ≡ 4 → write w (d + 0) 4 (λ j. f (0 + j)) ≡ write w d h f
+all-four w d h f e = store-next (pos 0) w w d 0 4 f (λ j. f (0 + j)) (store-none (pos 0) w d f) (λ j lt. refl) ∙ ap (λ (n : ℕ). write w d n f) (sym e)
 
 -- the words that the part that starts at c has to add
 module _ (w v : List ℤ) (d a b c h : ℕ) (fit : d + h ≤ length w) (le : c + h ≤ d) (ev : v ≡ write w d h (boxAt w a b)) (k : ℕ) (lt : k < h) where

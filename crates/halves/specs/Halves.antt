@@ -10,9 +10,13 @@ use Rattle.words.specs.Words.{boxWord, addWord, Word, word, write, Words, Added
 abbrev pub Apart : ℕ → ℕ → ℕ → Type 0
 Apart n a b = (a + n ≤ b) ⊎ (b + n ≤ a)
 
+-- there are h words from d, from a, from b and from c on
+pub record Held (w : List ℤ) (d a b c h : ℕ) : Type 0 where
+  pub fit : (d + h ≤ length w) × (a + h ≤ length w) × (b + h ≤ length w) × (c + h ≤ length w)
+
 -- the h words from d on are stored, and the h words from a, from b and from c on are read, none of which is stored
 pub record Sources (w : List ℤ) (d a b c h : ℕ) : Type 0 where
-  pub fit : (d + h ≤ length w) × (a + h ≤ length w) × (b + h ≤ length w) × (c + h ≤ length w)
+  pub held : Held w d a b c h
   pub apart : Apart h d a × Apart h d b × Apart h d c
 
 -- ---- what is stored for place k: a box, a sum, and one inside the other
@@ -51,7 +55,14 @@ FiniteSums w a b h = (k : ℕ) → k < h → Finite (word w (a + k)) (word w (b 
 abbrev pub FiniteBoxSums : List ℤ → ℕ → ℕ → ℕ → ℕ → Type 0
 FiniteBoxSums w a b c h = (k : ℕ) → k < h → Finite (boxAt w a b k) (word w (c + k))
 
--- ---- what one place requires, where one list is a part of its own: it is there, and what is boxed, and each sum, is a word
+-- ---- what one place requires: what is boxed, and each sum, is a word
+abbrev pub LeftPlace : List ℤ → (a b c k : ℕ) → Type 0
+LeftPlace w a b c k = Word (word w (a + k)) × Added (word w (b + k)) (word w (c + k))
+
+abbrev pub RightPlace : List ℤ → (a b c k : ℕ) → Type 0
+RightPlace w a b c k = Word (word w (a + k)) × Word (word w (b + k)) × Finite (boxAt w a b k) (word w (c + k))
+
+-- the same where one list is a part of its own: it is there, and what is boxed, and each sum, is a word
 pub record LeftAt (w second : List ℤ) (a c k : ℕ) : Type 0 where
   pub there : (a + k < length w) × (c + k < length w) × (k < length second)
   pub first : Word (word w (a + k))

@@ -10,7 +10,7 @@ ghost use lib.IntN.{pos};
 ghost use lib.ListN.{length};
 ghost use Rattle.model.specs.Soft.{mark};
 ghost use Rattle.words.specs.Words.{word, write, Holds, Words, Finite};
-ghost use Rattle.halves.specs.Halves.{Apart, Sources, boxAt, plusAt, boxPlus, plusBox, plusFront, leftAt, rightAt, FiniteSums, Sums, FiniteBoxSums, LeftAt, RightAt};
+ghost use Rattle.halves.specs.Halves.{Apart, Held, Sources, boxAt, plusAt, boxPlus, plusBox, plusFront, leftAt, rightAt, FiniteSums, Sums, FiniteBoxSums, LeftPlace, RightPlace, LeftAt, RightAt};
 
 // w[d + k] = box(w[a + k], w[b + k] + w[c + k])
 fn box_plus(w: &mut [i32], d: usize, a: usize, b: usize, c: usize, h: usize)
@@ -100,41 +100,61 @@ fn right_word(w: &[i32], second: &[i32], a: usize, c: usize, k: usize) -> i32
     add_finite(box_words(first, message), high)
 }
 
-// `box_plus` by four places at once.
-fn left_fours(w: &mut [i32], d: usize, a: usize, b: usize, c: usize, h: usize)
-    requires { ⌜ Sources (now w) d a b c h × (h % 4 ≡ 0) ⌝ }
+// `box_plus` for the four places from k on, all read before any is stored.
+fn left_four(w: &mut [i32], d: usize, a: usize, b: usize, c: usize, k: usize)
+    requires { ⌜ Held (now w) d a b c (k + 4) ⌝ }
+    requires { ⌜ ((i : ℕ) → k ≤ i → i < k + 4 → LeftPlace (now w) a b c i) ⌝ }
+    ensures { λ _. ⌜ now (w .exit) ≡ write (now (w .entry)) (d + k) 4 (λ j. boxPlus (now (w .entry)) a b c (k + j)) ⌝ }
+{
+    let all = &w[..];
+    let second = &all[b..];
+    let p = left_word(all, second, a, c, k);
+    let q = left_word(all, second, a, c, k + 1);
+    let r = left_word(all, second, a, c, k + 2);
+    let s = left_word(all, second, a, c, k + 3);
+    store_four(w, d + k, p, q, r, s);
+}
+
+// `plus_box` for the four places from k on, all read before any is stored.
+fn right_four(w: &mut [i32], d: usize, a: usize, b: usize, c: usize, k: usize)
+    requires { ⌜ Held (now w) d a b c (k + 4) ⌝ }
+    requires { ⌜ ((i : ℕ) → k ≤ i → i < k + 4 → RightPlace (now w) a b c i) ⌝ }
+    ensures { λ _. ⌜ now (w .exit) ≡ write (now (w .entry)) (d + k) 4 (λ j. plusBox (now (w .entry)) a b c (k + j)) ⌝ }
+{
+    let all = &w[..];
+    let second = &all[c..];
+    let p = right_word(all, second, a, b, k);
+    let q = right_word(all, second, a, b, k + 1);
+    let r = right_word(all, second, a, b, k + 2);
+    let s = right_word(all, second, a, b, k + 3);
+    store_four(w, d + k, p, q, r, s);
+}
+
+// `box_plus` by eight places in a turn.
+fn left_eights(w: &mut [i32], d: usize, a: usize, b: usize, c: usize, h: usize)
+    requires { ⌜ Sources (now w) d a b c h × (h % 8 ≡ 0) ⌝ }
     requires { ⌜ Words (now w) a h × Sums (now w) b c h ⌝ }
     ensures { λ _. ⌜ now (w .exit) ≡ write (now (w .entry)) d h (boxPlus (now (w .entry)) a b c) ⌝ }
 {
     let mut k = 0;
     while k < h {
-        let all = &w[..];
-        let second = &all[b..];
-        let p = left_word(all, second, a, c, k);
-        let q = left_word(all, second, a, c, k + 1);
-        let r = left_word(all, second, a, c, k + 2);
-        let s = left_word(all, second, a, c, k + 3);
-        store_four(w, d + k, p, q, r, s);
-        k += 4;
+        left_four(w, d, a, b, c, k);
+        left_four(w, d, a, b, c, k + 4);
+        k += 8;
     }
 }
 
-// `plus_box` by four places at once.
-fn right_fours(w: &mut [i32], d: usize, a: usize, b: usize, c: usize, h: usize)
-    requires { ⌜ Sources (now w) d a b c h × (h % 4 ≡ 0) ⌝ }
+// `plus_box` by eight places in a turn.
+fn right_eights(w: &mut [i32], d: usize, a: usize, b: usize, c: usize, h: usize)
+    requires { ⌜ Sources (now w) d a b c h × (h % 8 ≡ 0) ⌝ }
     requires { ⌜ Words (now w) a h × Words (now w) b h × FiniteBoxSums (now w) a b c h ⌝ }
     ensures { λ _. ⌜ now (w .exit) ≡ write (now (w .entry)) d h (plusBox (now (w .entry)) a b c) ⌝ }
 {
     let mut k = 0;
     while k < h {
-        let all = &w[..];
-        let second = &all[c..];
-        let p = right_word(all, second, a, b, k);
-        let q = right_word(all, second, a, b, k + 1);
-        let r = right_word(all, second, a, b, k + 2);
-        let s = right_word(all, second, a, b, k + 3);
-        store_four(w, d + k, p, q, r, s);
-        k += 4;
+        right_four(w, d, a, b, c, k);
+        right_four(w, d, a, b, c, k + 4);
+        k += 8;
     }
 }
 
@@ -149,8 +169,10 @@ pub fn left_list(w: &mut [i32], first: bool, c: usize, x: usize, r: usize, h: us
     let y = x + h;
     if first {
         box_at(w, c, x, y, h);
-    } else if h % 4 == 0 {
-        left_fours(w, c, x, y, r, h);
+    } else if h % 8 == 0 {
+        left_eights(w, c, x, y, r, h);
+    } else if h == 4 {
+        left_four(w, c, x, y, r, 0);
     } else {
         box_plus(w, c, x, y, r, h);
     }
@@ -166,8 +188,10 @@ pub fn right_list(w: &mut [i32], certain: bool, c: usize, x: usize, l: usize, h:
     let y = x + h;
     if certain {
         plus_at(w, c, x, y, h);
-    } else if h % 4 == 0 {
-        right_fours(w, c, x, l, y, h);
+    } else if h % 8 == 0 {
+        right_eights(w, c, x, l, y, h);
+    } else if h == 4 {
+        right_four(w, c, x, l, y, 0);
     } else {
         plus_box(w, c, x, l, y, h);
     }

@@ -24,13 +24,9 @@ module _ {w₀ w : List ℤ} {d h k : ℕ} {f : ℕ → ℤ} (s : Stored w₀ d 
   pub one-stored : {v : ℤ} → k < h → v ≡ f k → Stored w₀ d h f (k + 1) (set w (d + k) v)
   one-stored lt e = record { few = omega arith; words = store-more (pos 0) w₀ w d k _ f (s .words) e; long = simp length-set (s .long) }
 
-  pub four-stored : {v : List ℤ} {p q r t : ℤ} → k + 4 ≤ h → v ≡ write w (d + k) 4 (four p q r t) → length v ≡ length w → (p ≡ f k) × (q ≡ f (k + 1)) × (r ≡ f (k + 2)) × (t ≡ f (k + 3))
-      → Stored w₀ d h f (k + 4) v
-  four-stored {p = p} {q = q} {r = r} {t = t} room e long is = record {
-    few = room;
-    words = e ∙ store-next (pos 0) w₀ w d k 4 f (four p q r t) (s .words) (four-next f k p q r t (is .0) (is .1) (is .2) (is .3));
-    long = long ∙ s .long;
-  }
+  pub next-stored : (n : ℕ) {v : List ℤ} (g : ℕ → ℤ) → k + n ≤ h → v ≡ write w (d + k) n (λ j. g (k + j)) → length v ≡ length w → ((j : ℕ) → j < n → g (k + j) ≡ f (k + j))
+      → Stored w₀ d h f (k + n) v
+  next-stored n g room e long is = record { few = room; words = e ∙ store-next (pos 0) w₀ w d k n f (λ j. g (k + j)) (s .words) is; long = long ∙ s .long }
 
   pub all-stored : h ≤ k → w ≡ write w₀ d h f
   all-stored le = s .words ∙ ap (λ (n : ℕ). write w₀ d n f) (le-antisymm (s .few) le)
