@@ -98,15 +98,18 @@ module _ (plan : List ℕ) where
           omega (arith, cost-through plan t p mask e, il (well-l plan t p mask e w), ir (well-r plan t p mask e w))
           ∙ weight-same (λ k. sym (at-uncut t p mask e k))
 
-  -- what a root that is cut costs is not charged: below 6 the weight is that of a rate-0 or rate-1 node alone
-  pub cycles-counted : (t p : ℕ) (mask : List ℕ) → T (wellCut plan t p mask) → cycles plan t p mask ≡ weight (λ k. cutsOf k plan t p mask) - 6
-  cycles-counted t p mask w = go (isCut plan p && isRate01 (kindOf (2 ^ t) mask)) refl
+  -- a node's own cycles, from its cost: where no edge is counted to it, it is a cut rate-0 or rate-1 node and has none
+  pub cycles-cost : (t p : ℕ) (mask : List ℕ) → cycles plan t p mask ≡ cost plan t p mask + 4 - 6
+  cycles-cost t p mask = go (isCut plan p && isRate01 (kindOf (2 ^ t) mask)) refl
     where
-      go : (b : Bool) → (isCut plan p && isRate01 (kindOf (2 ^ t) mask)) ≡ b → cycles plan t p mask ≡ weight (λ k. cutsOf k plan t p mask) - 6
-      go false e = let edge : edgeCycles plan (2 ^ t) p mask ≡ 2 = ap (λ (b : Bool). cond b 0 2) e in omega (arith, cost-weight t p mask w)
+      go : (b : Bool) → (isCut plan p && isRate01 (kindOf (2 ^ t) mask)) ≡ b → cycles plan t p mask ≡ cost plan t p mask + 4 - 6
+      go false e = let edge : edgeCycles plan (2 ^ t) p mask ≡ 2 = ap (λ (b : Bool). cond b 0 2) e in omega arith
       go true e =
           let both : T (isCut plan p && isRate01 (kindOf (2 ^ t) mask)) = true-T _ e in
           let cut : isCut plan p ≡ true = T-true (isCut plan p) (and-l (isCut plan p) _ both) in
           let edge : edgeCycles plan (2 ^ t) p mask ≡ 0 = ap (λ (b : Bool). cond b 0 2) e in
           let own : cycles plan t p mask ≡ 0 = cycles-cut plan t p mask cut ∙ free (kindOf (2 ^ t) mask) (and-r (isCut plan p) _ both) in
-          omega (arith, cost-weight t p mask w)
+          omega arith
+
+  pub cycles-counted : (t p : ℕ) (mask : List ℕ) → T (wellCut plan t p mask) → cycles plan t p mask ≡ weight (λ k. cutsOf k plan t p mask) - 6
+  cycles-counted t p mask w = cycles-cost t p mask ∙ ap (λ (n : ℕ). n - 6) (cost-weight t p mask w)

@@ -18,7 +18,7 @@ use Rattle.model.specs.Encoding.{maxMask, Mask, frozenToZero}
 use Rattle.model.specs.Plans.{isCut, noCut, wellCut, Allowed, cycles, cutsBelow, cutAt, levels, plannerPlan, plannerBy, levelsBy, cutAtBy}
 use Rattle.model.proofs.Paths.{wellCut-cut, well-l, well-r, noCut-below, allow, allowed-length, allowed-bytes, allowed-first}
 use Rattle.model.proofs.Cycles.{cost, cycles-cut, cycles-through, cost-leaf, cost-cut, cost-through, walk-on}
-use Rattle.model.proofs.Lists.{double, length-tabulate, getD-tabulate, halves, only, T-true, true-T, absurd-bool, and-l, and-r, and-T, at-most-at, at-most-take, at-most-drop, at-most-append, at-most-tabulate, not-bit, bit-small}
+use Rattle.model.proofs.Lists.{double, length-tabulate, getD-tabulate, halves, only, T-true, true-T, absurd-bool, and-l, and-r, and-T, at-most-at, at-most-take, at-most-drop, at-most-append, at-most-tabulate, not-bit, bit-small, eqb-apart}
 
 -- ---- places of the heap: d levels below node p, place i
 pub idx-root : (p : ℕ) → p * 2 ^ 0 + 0 ≡ p
@@ -151,18 +151,15 @@ mask-l t mask M = record { sized = length-take-le (2 ^ t) mask (omega (arith, M 
 pub mask-r : (t : ℕ) (mask : List ℕ) → Mask (suc t) mask → Mask t (drop (2 ^ t) mask)
 mask-r t mask M = record { sized = length-drop (2 ^ t) mask ∙ omega (arith, M .sized); bytes = at-most-drop maxMask (2 ^ t) mask (M .bytes) }
 
-pub leaf-kind : (mask : List ℕ) → Mask zero mask → isSome (kindOf 1 mask) ≡ true
-leaf-kind mask M = go mask (M .sized) (M .bytes)
-  where
-    bit-kind : (x : ℕ) → x ≤ 1 → isSome (kindOf 1 (x ∷ [])) ≡ true
-    bit-kind zero h = unfold kindOf firstOf same frozenToZero in refl
-    bit-kind (suc zero) h = unfold kindOf firstOf same frozenToZero in refl
-    bit-kind (suc (suc x)) h = let z : ⊥ = omega arith in absurd z
+-- a leaf is a rate-0 or a rate-1 node
+pub leaf-some : (mask : List ℕ) → length mask ≡ 1 → isSome (kindOf 1 mask) ≡ true
+leaf-some [] e = let z : ⊥ = omega arith in absurd z
+leaf-some (zero ∷ []) e = unfold kindOf firstOf same frozenToZero in refl
+leaf-some (suc x ∷ []) e = unfold kindOf firstOf same frozenToZero in rw (eqb-apart (suc x) 0 (λ z. omega arith))
+leaf-some (x ∷ y ∷ l) e = let z : ⊥ = omega arith in absurd z
 
-    go : (l : List ℕ) → length l ≡ 1 → T (atMost maxMask l) → isSome (kindOf 1 l) ≡ true
-    go [] e b = let z : ⊥ = omega arith in absurd z
-    go (x ∷ []) e b = unfold atMost in bit-kind x (leb→le x 1 (and-l (leb x 1) true b))
-    go (x ∷ y ∷ l) e b = let z : ⊥ = omega arith in absurd z
+pub leaf-kind : (mask : List ℕ) → Mask zero mask → isSome (kindOf 1 mask) ≡ true
+leaf-kind mask M = leaf-some mask (M .sized)
 
 chosen-wellCut : (plan : List ℕ) (t p : ℕ) (mask : List ℕ) → Mask t mask → Chosen plan t p mask → T (wellCut plan t p mask)
 unfolding wellCut

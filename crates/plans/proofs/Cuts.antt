@@ -6,17 +6,29 @@ use native.Mathlib.Decide.{decLe}
 use native.Mathlib.Omega.{arith}
 use mathlib.Core.Path.{_≡_, refl, sym, ap, ap₂, _∙_}
 use mathlib.Core.Bool.{Bool, true, false, not, cond, _&&_}
-use mathlib.Core.List.{List}
+use mathlib.Core.List.{List, [], _∷_}
 use borrow.Author.Tests.{eq-eqb, ne-eqb, eqb-true, eqb-false}
-use lib.Dec.{T, eqb}
+use lib.Dec.{T, eqb, leb, leb→le}
 use lib.ListN.{length, take, drop, getD, drop-of-length-le, List·getD-eq-default}
 use lib.Pow.{pow-pos}
 use lib.Seq.{drop-cons}
 use Rattle.model.specs.Lists.{atMost, bit}
 use Rattle.model.specs.Kinds.{kindOf, isSome}
 use Rattle.model.specs.Plans.{isCut, noCut, wellCut, cutsBelow}
-use Rattle.model.proofs.Lists.{double, and-true, at-most-at, bit-small, cond-both}
-use Rattle.plans.specs.Nodes.{wellMet, cutsMet, byteSum}
+use Rattle.model.proofs.Lists.{double, and-true, and-l, and-r, at-most-at, bit-small, cond-both}
+use Rattle.plans.specs.Nodes.{byteSum}
+
+-- ---- what the check meets on its way from a node down
+-- every path from node p down has a cut, and the first one is at a node of some kind
+unfoldable pub wellMet : List ℕ → ℕ → ℕ → List ℕ → Bool
+wellMet plan zero p mask = isCut plan p && isSome (kindOf 1 mask)
+wellMet plan (suc t) p mask =
+    cond (isCut plan p) (isSome (kindOf (2 ^ suc t) mask)) (wellMet plan t (2 * p) (take (2 ^ t) mask) && wellMet plan t (2 * p + 1) (drop (2 ^ t) mask))
+
+-- the number of cut nodes from node p down that have no cut above them
+unfoldable pub cutsMet : List ℕ → ℕ → ℕ → ℕ
+cutsMet plan zero p = bit (isCut plan p)
+cutsMet plan (suc t) p = cond (isCut plan p) 1 (cutsMet plan t (2 * p) + cutsMet plan t (2 * p + 1))
 
 -- two numbers within two others have the same sum exactly if they are the same
 eqb-sum : (m n a b : ℕ) → m ≤ a → n ≤ b → (eqb m a && eqb n b) ≡ eqb (m + n) (a + b)
@@ -113,6 +125,11 @@ sum-more k plan i h = rw (add-one, drop-cons plan i 0) (sym (add-assoc k (getD p
 pub sum-end : (k : ℕ) (plan : List ℕ) (i : ℕ) → length plan ≤ i → k + byteSum (drop i plan) ≡ k
 unfolding byteSum
 sum-end k plan i h = rw (drop-of-length-le plan h) (omega arith)
+
+pub sum-small : (plan : List ℕ) → T (atMost 1 plan) → byteSum plan ≤ length plan
+unfolding byteSum atMost
+sum-small [] b = zero-le
+sum-small (x ∷ plan) b = omega (arith, leb→le x 1 (and-l (leb x 1) (atMost 1 plan) b), sum-small plan (and-r (leb x 1) (atMost 1 plan) b))
 
 -- f of a row of nodes added up, from node a on and as many as w
 along : (ℕ → ℕ) → ℕ → ℕ → ℕ

@@ -1,7 +1,7 @@
 -- The numbers of a plan's test and of its check, case by case. Assumes nothing.
-use Prim.Native.Nat.{ℕ, _*_, _^_, _≤_}
+use Prim.Native.Nat.{ℕ, _*_, _-_, _/_, _%_, _^_, _≤_}
 use native.Mathlib.Omega.{arith}
-use mathlib.Core.Path.{_≡_, refl, sym, ap₂, _∙_}
+use mathlib.Core.Path.{_≡_, refl, sym, ap, ap₂, _∙_}
 use mathlib.Core.Bool.{Bool, true, false, cond, _&&_}
 use mathlib.Core.List.{List, [], _∷_}
 use borrow.Author.Tests.{ne-eqb}
@@ -9,16 +9,18 @@ use lib.Dec.{T, eqb, eqb→eq}
 use lib.ListN.{length, getD}
 use lib.Pow.{pow-mono}
 use Rattle.model.specs.Lists.{atMost}
-use Rattle.model.specs.Plans.{isPlan, oneCut, cutsOfKinds, wellCut, Allowed, cycles}
+use Rattle.model.specs.Plans.{isPlan, oneCut, cutsOfKinds, wellCut, cutsBelow, Allowed, cycles}
 use Rattle.model.specs.Refusals.{Test, refusal, exponent, row-5, row-6, checkNumber, checkCycles}
-use Rattle.model.proofs.Lists.{true-T, and-l, and-r}
+use Rattle.model.proofs.Lists.{T-true, true-T, and-l, and-r}
 use Rattle.model.proofs.Paths.{wellCut-test}
+use Rattle.model.proofs.CountedCycles.{cycles-cost}
 use Rattle.inputs.specs.Tests.{MaskTests}
 use Rattle.inputs.proofs.Rows.{mask-refused, mask-accepted}
-use Rattle.plans.specs.Nodes.{Span, Costs, byteSum}
+use Rattle.plans.specs.Nodes.{Span, shares, byteSum}
 use Rattle.plans.specs.Faults.{faultNumber, faultCycles}
 use Rattle.plans.proofs.Parts.{root}
-use Rattle.plans.proofs.Cuts.{met-test, sum-cuts}
+use Rattle.plans.proofs.Cuts.{wellMet, cutsMet, met-test, sum-cuts, sum-small}
+use Rattle.plans.proofs.Shares.{cost-small, says}
 
 module _ (n : ℕ) (mask plan : List ℕ) where
   -- what the code tests is row 5
@@ -68,12 +70,30 @@ module _ (n : ℕ) (mask plan : List ℕ) where
     pub plan-small : n ≤ 10 → (length plan ≤ 2048) × T (atMost 1 plan)
     plan-small low = let q : 2 ^ n ≤ 1024 = pow-mono low in (omega (arith, plan-size), plan-bytes)
 
-    -- what is found at the root and the number of cuts decide row 6
-    pub root-test : {b w : Bool} {m c e k : ℕ} → Costs plan n 1 mask w m c e → k ≡ byteSum plan → b ≡ (w && eqb m k) → wellCut plan n 1 mask ≡ b
-    root-test A s t =
-        met-test plan n 1 mask
-        ∙ ap₂ (λ (x y : Bool). x && y) (sym (A .met)) (ap₂ eqb (sym (A .cuts)) (sym (s ∙ sum-cuts plan plan-bytes n (omega (arith, plan-size)) plan-first)))
-        ∙ sym t
+    -- the sum at the root and the number of cuts decide row 6
+    pub root-test : {c k : ℕ} → n ≤ 10 → c ≡ shares plan n 1 mask → k ≡ byteSum plan → eqb (c / 65536) k ≡ wellCut plan n 1 mask
+    root-test {c} {k} low e s = go (wellMet plan n 1 mask) refl
+      where
+        few : 2 ^ n ≤ 1024
+        few = pow-mono low
+
+        cuts : k ≡ cutsBelow plan n 1
+        cuts = s ∙ sum-cuts plan plan-bytes n (omega (arith, plan-size)) plan-first
+
+        go : (b : Bool) → wellMet plan n 1 mask ≡ b → eqb (c / 65536) k ≡ wellCut plan n 1 mask
+        go true w =
+            let q : c / 65536 ≡ cutsMet plan n 1 = omega (arith, e, says plan n 1 mask .well w, cost-small plan n 1 mask, few) in
+            ap₂ eqb q cuts ∙ sym (met-test plan n 1 mask ∙ ap (λ (b : Bool). b && eqb (cutsMet plan n 1) (cutsBelow plan n 1)) w)
+        go false w =
+            ne-eqb (c / 65536) k (λ q. omega (arith, e, says plan n 1 mask .ill w, s, sum-small plan plan-bytes, plan-size, few))
+            ∙ sym (met-test plan n 1 mask ∙ ap (λ (b : Bool). b && eqb (cutsMet plan n 1) (cutsBelow plan n 1)) w)
+
+    -- and the cycles
+    pub root-cycles : {c : ℕ} → n ≤ 10 → c ≡ shares plan n 1 mask → wellCut plan n 1 mask ≡ true → c % 65536 - 6 ≡ cycles plan n 1 mask
+    root-cycles {c} low e w =
+        let few : 2 ^ n ≤ 1024 = pow-mono low in
+        let met : wellMet plan n 1 mask ≡ true = T-true _ (and-l (wellMet plan n 1 mask) (eqb (cutsMet plan n 1) (cutsBelow plan n 1)) (true-T _ (sym (met-test plan n 1 mask) ∙ w))) in
+        omega (arith, e, says plan n 1 mask .well met, cost-small plan n 1 mask, cycles-cost plan n 1 mask)
 
   -- number 0 says that the plan is allowed
   pub fault-allowed : 0 ≡ faultNumber n mask plan → Allowed n plan mask

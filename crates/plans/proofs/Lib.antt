@@ -1,4 +1,4 @@
 pub mod Parts
 pub mod Cuts
-pub mod Costs
+pub mod Shares
 pub mod Faults

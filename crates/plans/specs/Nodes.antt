@@ -1,12 +1,12 @@
 -- Nodes and their bytes in a plan, and what the check finds at a node. Assumes nothing.
 use Prim.Native.Nat.{ℕ, zero, suc, _+_, _*_, _^_, _≤_}
 use mathlib.Core.Path.{_≡_}
-use mathlib.Core.Bool.{Bool, cond, _&&_}
+use mathlib.Core.Bool.{cond}
+use mathlib.Core.Option.{Option}
 use mathlib.Core.List.{List, [], _∷_}
 use lib.ListN.{take, drop, length}
-use Rattle.model.specs.Lists.{bit}
-use Rattle.model.specs.Kinds.{isSome, kindOf}
-use Rattle.model.specs.Plans.{isCut, cycles, edgeCycles}
+use Rattle.model.specs.Kinds.{Kind, isSome, kindOf}
+use Rattle.model.specs.Plans.{isCut, isRate01, cutCycles}
 
 -- node p of stage t and the nodes below it have their bytes in a plan of l bytes
 pub record Place (t p l : ℕ) : Type 0 where
@@ -25,25 +25,21 @@ pub record Span (t p b s : ℕ) (mask plan : List ℕ) : Type 0 where
   pub span : b + s ≤ length mask
   pub place : Place t p (length plan)
 
--- every path from node p down has a cut, and the first one is at a node of some kind
-unfoldable pub wellMet : List ℕ → ℕ → ℕ → List ℕ → Bool
-wellMet plan zero p mask = isCut plan p && isSome (kindOf 1 mask)
-wellMet plan (suc t) p mask =
-    cond (isCut plan p) (isSome (kindOf (2 ^ suc t) mask)) (wellMet plan t (2 * p) (take (2 ^ t) mask) && wellMet plan t (2 * p + 1) (drop (2 ^ t) mask))
+-- what a node or leaf without its cut, or a cut node of no kind, adds to the check's sum
+abbrev pub fault : ℕ
+fault = 4294967296
 
--- the number of cut nodes from node p down that have no cut above them
-unfoldable pub cutsMet : List ℕ → ℕ → ℕ → ℕ
-cutsMet plan zero p = bit (isCut plan p)
-cutsMet plan (suc t) p = cond (isCut plan p) 1 (cutsMet plan t (2 * p) + cutsMet plan t (2 * p + 1))
+-- what a cut node adds: 65536 for the cut; its own cycles; and 4, or 6 where the node above it counts 2 for the edge to it
+abbrev pub share : Option Kind → ℕ
+share o = cond (isSome o) (65536 + (cutCycles o + cond (isRate01 o) 4 6)) fault
+
+-- the sum from node p of stage t down to the first cut of each path
+unfoldable pub shares : List ℕ → ℕ → ℕ → List ℕ → ℕ
+shares plan zero p mask = cond (isCut plan p) (share (kindOf 1 mask)) fault
+shares plan (suc t) p mask =
+    cond (isCut plan p) (share (kindOf (2 ^ suc t) mask)) (shares plan t (2 * p) (take (2 ^ t) mask) + shares plan t (2 * p + 1) (drop (2 ^ t) mask))
 
 -- the bytes of a plan added up: the number of its cuts, where each byte is 0 or 1
 unfoldable pub byteSum : List ℕ → ℕ
 byteSum [] = 0
 byteSum (b ∷ plan) = b + byteSum plan
-
--- what the check finds at node p of stage t
-pub record Costs (plan : List ℕ) (t p : ℕ) (mask : List ℕ) (well : Bool) (m c e : ℕ) : Type 0 where
-  pub met : well ≡ wellMet plan t p mask
-  pub cuts : m ≡ cutsMet plan t p
-  pub own : c ≡ cycles plan t p mask
-  pub edge : e ≡ edgeCycles plan (2 ^ t) p mask

@@ -1,7 +1,6 @@
 // The check of a plan, and the cycles of one sweep.
 // A recursion goes down the tree with a node's stage t, its number p, and its positions of the mask: 2p and 2p + 1 are its children.
 use inputs::at_most;
-use inputs::both;
 use inputs::mask_tests;
 use kinds::KINDS;
 use kinds::Kind;
@@ -9,84 +8,78 @@ use kinds::kind_of;
 use kinds::table_row;
 ghost use mathlib.Core.Path.{_≡_};
 ghost use mathlib.Core.Bool.{cond, _&&_};
-ghost use Prim.Native.Nat.{_+_, _*_, _≤_, _<_, _^_};
+ghost use Prim.Native.Nat.{_-_, _%_, _≤_, _<_, _^_};
 ghost use lib.Dec.{T, eqb};
 ghost use lib.ListN.{length, getD};
 ghost use Rattle.model.specs.Lists.{atMost, part};
-ghost use Rattle.model.specs.Kinds.{isSome};
-ghost use Rattle.model.specs.Plans.{isRate01, cutCycles};
 ghost use Rattle.model.specs.Refusals.{checkNumber, checkCycles};
 ghost use Rattle.kinds.specs.Runs.{kindNamed};
-ghost use Rattle.plans.specs.Nodes.{Span, byteSum, Costs};
+ghost use Rattle.plans.specs.Nodes.{Span, byteSum, fault, share, shares};
 ghost use Rattle.plans.specs.Faults.{faultNumber, faultCycles};
 
-// What the check finds at a node: whether each path from it down has a cut, the first at a node of some kind; the number of those first cuts;
-// its cycles with those below it; and the cycles that its parent counts for the edge to it.
-struct Cost {
-    well: bool,
-    cuts: u32,
-    cycles: u32,
-    edge: u32,
-}
+// What a leaf whose path has no cut, or a cut node of no kind, adds to the check's sum: more than all cuts of a plan.
+const FAULT: u64 = 4294967296;
 
-// The cycles of an edge to a node that is a cut rate-0 or rate-1 node, or not.
-fn edge_cycles(fixed: bool) -> u32
-    ensures { λ r. ⌜ r ≡ cond fixed 0 2 ⌝ }
+// What a cut adds, above the cycles.
+const CUT: u64 = 65536;
+
+// The cycles that an uncut node of two children counts for a child, shared out: 4 for a cut rate-0 or rate-1 node, else 6.
+fn way_cycles(fixed: bool) -> u64
+    ensures { λ r. ⌜ r ≡ cond fixed 4 6 ⌝ }
 {
-    if fixed { 0 } else { 2 }
+    if fixed { 4 } else { 6 }
 }
 
-// A cut node of kind k.
-fn cut_cost(k: Kind) -> Cost
-    ensures { λ r. ⌜ (r .well ≡ isSome (kindNamed k)) × (r .cuts ≡ 1) × (r .cycles ≡ cutCycles (kindNamed k)) × (r .edge ≡ cond (isRate01 (kindNamed k)) 0 2) ⌝ }
+// What a cut node of kind k adds.
+fn share_of(k: Kind) -> u64
+    ensures { λ r. ⌜ r ≡ share (kindNamed k) ⌝ }
 {
     let row = table_row(k);
-    Cost {
-        well: row.place < KINDS,
-        cuts: 1,
-        cycles: row.cycles,
-        edge: edge_cycles(row.fixed),
+    if row.place < KINDS {
+        CUT + (row.cycles as u64 + way_cycles(row.fixed))
+    } else {
+        FAULT
     }
 }
 
-// An uncut node with the children a and b.
-fn joined(a: Cost, b: Cost) -> Cost
-    requires { ⌜ (a .cuts ≤ 1024) × (a .cycles ≤ 16384) × (a .edge ≤ 2) × (b .cuts ≤ 1024) × (b .cycles ≤ 16384) × (b .edge ≤ 2) ⌝ }
-    ensures { λ r. ⌜ (r .well ≡ (a .well && b .well)) × (r .cuts ≡ a .cuts + b .cuts) × (r .cycles ≡ 2 + (a .edge + b .edge) + (a .cycles + b .cycles)) × (r .edge ≡ 2) ⌝ }
+// What a leaf adds, by its byte of the plan: each is a rate-0 or a rate-1 node.
+fn leaf_share(byte: u8) -> u64
+    ensures { λ r. ⌜ r ≡ cond (eqb byte 1) 65540 fault ⌝ }
 {
-    Cost {
-        well: both(a.well, b.well),
-        cuts: a.cuts + b.cuts,
-        cycles: 2 + (a.edge + b.edge) + (a.cycles + b.cycles),
-        edge: 2,
-    }
+    if byte == 1 { CUT + 4 } else { FAULT }
 }
 
-// What the check finds at node p, of stage t, in one pass from it down. The node has the s positions of the mask from b on:
-// a part of the mask is made at a cut only, since a part that is handed on in each call costs more than two numbers.
-fn cost_at(mask: &[u8], plan: &[u8], t: usize, p: usize, b: usize, s: usize) -> Cost
+// The check's sum at node p, of stage t, in one pass from it down. The node has the s positions of the mask from b on: a part of the mask is made at a
+// cut only, since a part that is handed on in each call costs more than two numbers. Above two leaves the pass ends, so that a plan that cuts the leaves
+// takes no call for each.
+fn shares_at(mask: &[u8], plan: &[u8], t: usize, p: usize, b: usize, s: usize) -> u64
     requires { ⌜ Span t p b s (now mask) (now plan) ⌝ }
-    ensures { λ r. ⌜ Costs (now (plan .entry)) t p (part (now (mask .entry)) b s) (r .well) (r .cuts) (r .cycles) (r .edge) ⌝ }
+    ensures { λ r. ⌜ r ≡ shares (now (plan .entry)) t p (part (now (mask .entry)) b s) ⌝ }
 {
-    let e = b + s;
     if plan[p] == 1 {
-        return cut_cost(kind_of(&mask[b..e]));
+        let e = b + s;
+        return share_of(kind_of(&mask[b..e]));
     }
     if t == 0 {
-        let c = cut_cost(kind_of(&mask[b..e]));
-        return Cost {
-            well: false,
-            cuts: 0,
-            cycles: c.cycles,
-            edge: 2,
-        };
+        return FAULT;
+    }
+    let l = 2 * p;
+    if t == 1 {
+        return leaf_share(plan[l]) + leaf_share(plan[l + 1]);
     }
     let u = t - 1;
     let h = s / 2;
-    let l = 2 * p;
-    let left = cost_at(mask, plan, u, l, b, h);
-    let right = cost_at(mask, plan, u, l + 1, b + h, h);
-    joined(left, right)
+    let left = shares_at(mask, plan, u, l, b, h);
+    let right = shares_at(mask, plan, u, l + 1, b + h, h);
+    left + right
+}
+
+// The cycles of one sweep along an allowed plan, from the sum at the root: no node counts an edge to the root.
+fn cycles_in(sum: u64) -> u32
+    ensures { λ r. ⌜ r ≡ sum % 65536 - 6 ⌝ }
+{
+    let all = sum % CUT;
+    if all < 6 { 0 } else { (all - 6) as u32 }
 }
 
 // Whether a plan has the given size, bytes of 0 and 1, and byte 0 is 0.
@@ -125,7 +118,7 @@ pub struct Checked {
 }
 
 // Tests 5 and 6 of a plan, for a mask of 2 ^ t bytes. The decoder shares them.
-// Where a path has a second cut, the plan has more cuts than the pass from the root down counts.
+// Where a path has a second cut, the plan has more cuts than the pass from the root down counts; where one has none, or a cut node is of no kind, it has fewer.
 pub fn fault_of(mask: &[u8], plan: &[u8], t: usize) -> Checked
     requires { ⌜ (length (now mask) ≡ 2 ^ t) × (t ≤ 10) ⌝ }
     ensures { λ r. ⌜ (r .number ≡ faultNumber t (now (mask .entry)) (now (plan .entry))) × (r .cycles ≡ faultCycles t (now (mask .entry)) (now (plan .entry))) ⌝ }
@@ -136,12 +129,12 @@ pub fn fault_of(mask: &[u8], plan: &[u8], t: usize) -> Checked
             cycles: 0,
         };
     }
-    let c = cost_at(mask, plan, t, 1, 0, mask.len());
+    let sum = shares_at(mask, plan, t, 1, 0, mask.len());
     let cuts = cuts_in(plan);
-    if both(c.well, c.cuts == cuts) {
+    if sum / CUT == cuts as u64 {
         Checked {
             number: 0,
-            cycles: c.cycles,
+            cycles: cycles_in(sum),
         }
     } else {
         Checked {
