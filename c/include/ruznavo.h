@@ -36,8 +36,8 @@
  * Scale. The scale of the LLRs is the caller's choice: for every whole number c above 0, c times the LLRs give c times
  * the finite soft values, the same certain ones, and the same hard bits, payload, frozen check and cycles. But
  * ruznavo_samples rounds to whole numbers, and on a larger scale that loses less: v / 16 handed in the place of the
- * noise variance v makes the LLRs 16 times as large, which keeps four more bits of each. They are clamped to +-32767 on
- * every scale, and a shortened position gives 32767 on every scale. docs/CURVES.md shows what rounding costs.
+ * noise variance v makes what is rounded 16 times as large, which keeps four more bits of each LLR. On every scale LLRs
+ * are clamped to +-32767, and a shortened position gives 32767. docs/CURVES.md shows what rounding costs.
  *
  * Floating point. ruznavo_samples alone computes with floating-point numbers. It needs the processor's default
  * settings (MXCSR): rounding to nearest, subnormal numbers kept as they are (neither flush-to-zero nor
