@@ -4,7 +4,7 @@
 #include <stdio.h>
 #include <stdlib.h>
 
-enum { N = 256, STAGE = 8, K = 128, SWEEPS = 4 };
+enum { N = 256, K = 128, SWEEPS = 4 };
 
 /* The code, of which sender and receiver know: bit i % 32 of word i / 32 is 1 if position i is frozen. These are the
  * positions with the largest erasure rates, for an erasure channel of rate 0.4. */
@@ -16,12 +16,13 @@ static uint8_t mask[N], plan[2 * N], payload[K], word[N], hard[N], decoded[K];
 static uint8_t marks[N];
 static float samples[N];
 static int16_t llrs[N];
-static int32_t soft[N], work[RUZNAVO_WORK_WORDS(N, STAGE)];
+static int32_t soft[N], work[RUZNAVO_WORK_WORDS(N)];
 static uint32_t counts[RUZNAVO_KINDS];
 
 static uint64_t accepted(const char *call, uint64_t answer) {
-    if (ruznavo_number(answer) != RUZNAVO_OK) {
-        printf("%s: refused with number %u\n", call, ruznavo_number(answer));
+    unsigned number = ruznavo_number(answer);
+    if (number != RUZNAVO_OK) {
+        printf("%s: refused with number %u, %s\n", call, number, ruznavo_number_name(number));
         exit(1);
     }
     return answer;

@@ -1,14 +1,17 @@
 /*
  * Ruznavo from C: min-sum SCAN decoding of polar codes with shortcut nodes.
  *
- * `rt staticlib ruznavo` writes target/staticlib/libruznavo.a (x86-64, System V calling convention). It needs memcpy and
- * memset of the C library and nothing else. It has no static data, allocates nothing, makes no system call and always
- * returns, so calls may run on several threads at once as long as they do not share a buffer that one of them writes.
+ * The library is x86-64 code with the System V calling convention. `rt staticlib ruznavo` writes it as
+ * target/staticlib/libruznavo.a; `make -C c install` installs that archive, a shared object, this header and a file for
+ * pkg-config. It needs memcpy and memset of the C library and nothing else. It has no static data, allocates nothing,
+ * makes no system call and always returns, so calls may run on several threads at once as long as they do not share a
+ * buffer that one of them writes.
  *
  * Buffers. A buffer is a pointer and its length in elements, bytes or words as the type says.
  *   - Samples, LLRs and words are in the machine's own representation, with the natural alignment of their type:
  *     4 for float, int32_t and uint32_t, 2 for int16_t. Byte buffers need none.
- *   - No pointer may be NULL, also where the length is 0.
+ *   - No pointer may be NULL, also where the length is 0: the proofs take every buffer, also an empty one, to have a
+ *     place in memory.
  *   - An output or workspace must not overlap any other buffer of the same call. Inputs may overlap each other;
  *     they are only read.
  *   - A buffer may be longer than what a call writes: the tail stays as it was. Inputs must have the exact length.
@@ -22,15 +25,31 @@
  *   payload    K bytes, one a bit
  *   word, hard N bytes, one a bit
  *   llrs       N values from -32767 to 32767; bit 0 is sent as +1, so a positive LLR speaks for bit 0
- *   soft       N values; RUZNAVO_CERTAIN marks a bit that the frozen positions fix to 0
- *   work       RUZNAVO_WORK_WORDS(N, n) words
+ *   soft       N values, each finite, within +-32767 * 1024, or RUZNAVO_CERTAIN
+ *   work       RUZNAVO_WORK_WORDS(N) words
+ *
+ * Soft values. soft[k] is what the code adds to llrs[k]: bit k of the word is decided by the sign of llrs[k] + soft[k].
+ * It is 1 exactly if that sum is negative, so a tie gives 0. RUZNAVO_CERTAIN stands where the frozen positions fix the
+ * bit to 0, and the bit is 0 whatever the LLR. Test for it before adding: its sum with an LLR can leave 32 bits. The
+ * sum of a finite soft value and an LLR never does.
+ *
+ * Scale. The scale of the LLRs is the caller's choice: for every whole number c above 0, c times the LLRs give c times
+ * the finite soft values, the same certain ones, and the same hard bits, payload, frozen check and cycles. But
+ * ruznavo_samples rounds to whole numbers, and on a larger scale that loses less: v / 16 handed in the place of the
+ * noise variance v makes what is rounded 16 times as large, which keeps four more bits of each LLR. On every scale LLRs
+ * are clamped to +-32767, and a shortened position gives 32767. docs/CURVES.md shows what rounding costs.
+ *
+ * Floating point. ruznavo_samples alone computes with floating-point numbers. It needs the processor's default
+ * settings (MXCSR): rounding to nearest, subnormal numbers kept as they are (neither flush-to-zero nor
+ * denormals-are-zero), exceptions masked. A program or a shared object linked with -ffast-math can change them at its
+ * start. The call may leave exception flags set.
  *
  * Answers. Each call answers one number; the functions below take it apart. The refusal number is 0 if the call was
  * accepted. A refused call answers its number with every other result 0 and leaves every buffer as it was, the
  * workspace too. If several causes apply, the lowest number of those that the call tests is answered.
  *
- * Stack. At N = 1024 the decoder used 4.4 KB, planner and plan check 1.8 KB each, the others 0.1 KB. c/test/stack.c
- * measures this; take its figures for the library that you link.
+ * Stack. At N = 1024 the decoder used less than 7 KB, planner and plan check less than 2 KB each, the others less than
+ * 200 bytes. `make -C c` measures this (c/test/stack.c), and fails where a call uses more.
  */
 #ifndef RUZNAVO_H
 #define RUZNAVO_H
@@ -42,6 +61,12 @@
 extern "C" {
 #endif
 
+/* The version of this header and of the library that it belongs to. The shared object's name has the first number. */
+#define RUZNAVO_VERSION_MAJOR 0
+#define RUZNAVO_VERSION_MINOR 4
+#define RUZNAVO_VERSION_PATCH 0
+#define RUZNAVO_VERSION "0.4.0"
+
 #define RUZNAVO_MIN_N 2
 #define RUZNAVO_MAX_N 1024
 #define RUZNAVO_MAX_SWEEPS 8
@@ -50,9 +75,14 @@ extern "C" {
 /* The soft value "certain". */
 #define RUZNAVO_CERTAIN INT32_MAX
 
-/* Words of a decode's workspace, for N = 2^n. */
-#define RUZNAVO_WORK_WORDS(N, n) ((size_t)(N) * ((size_t)(n) + 3))
-#define RUZNAVO_MAX_WORK_WORDS RUZNAVO_WORK_WORDS(RUZNAVO_MAX_N, 10)
+/* n, for N = 2^n from 2 to 1024. The argument is evaluated more than once, here and below. */
+#define RUZNAVO_EXPONENT(N)                                                                                            \
+    (1 + ((N) >= 4) + ((N) >= 8) + ((N) >= 16) + ((N) >= 32) + ((N) >= 64) + ((N) >= 128) + ((N) >= 256) +             \
+     ((N) >= 512) + ((N) >= 1024))
+
+/* Words of a decode's workspace, N(n + 3): a constant expression if N is one, so an array may have this size. */
+#define RUZNAVO_WORK_WORDS(N) ((size_t)(N) * (size_t)(RUZNAVO_EXPONENT(N) + 3))
+#define RUZNAVO_MAX_WORK_WORDS RUZNAVO_WORK_WORDS(RUZNAVO_MAX_N)
 
 /* Marks of received positions. */
 enum { RUZNAVO_SENT = 0, RUZNAVO_PUNCTURED = 1, RUZNAVO_SHORTENED = 2 };
@@ -70,7 +100,7 @@ enum {
     RUZNAVO_KINDS
 };
 
-/* Refusal numbers. The line program alone has number 13. */
+/* Refusal numbers. The last is the line program's: no call here answers it. */
 enum {
     RUZNAVO_OK = 0,
     RUZNAVO_BAD_LENGTH = 1,    /* mask length, or number of samples or bits, is not a power of two from 2 to 1024 */
@@ -84,16 +114,45 @@ enum {
     RUZNAVO_BAD_SAMPLE = 9,    /* a position mark above 2, or a sent sample that is not finite */
     RUZNAVO_BAD_PAYLOAD = 10,  /* a payload byte above 1 */
     RUZNAVO_SHORT_OUTPUT = 11, /* an output is too short */
-    RUZNAVO_SHORT_WORK = 12    /* the workspace is too short */
+    RUZNAVO_SHORT_WORK = 12,   /* the workspace is too short */
+    RUZNAVO_BAD_LINE = 13      /* the line is malformed */
 };
+
+/* A refusal number's cause in words, for messages. */
+static inline const char *ruznavo_number_name(unsigned number) {
+    switch (number) {
+    case RUZNAVO_OK: return "accepted";
+    case RUZNAVO_BAD_LENGTH: return "mask length, or number of samples or bits, not a power of two from 2 to 1024";
+    case RUZNAVO_BAD_MASK: return "mask byte above 1";
+    case RUZNAVO_BAD_COUNT: return "LLRs or position marks not N, or payload not K";
+    case RUZNAVO_BAD_SWEEPS: return "sweeps outside 1 to 8";
+    case RUZNAVO_BAD_PLAN: return "plan not 2N bytes, a plan byte above 1, or byte 0 not 0";
+    case RUZNAVO_BAD_CUTS: return "a path without exactly one cut, or a cut node of no kind";
+    case RUZNAVO_BAD_LLR: return "LLR outside -32767 to 32767";
+    case RUZNAVO_BAD_VARIANCE: return "noise variance not finite or not above 0";
+    case RUZNAVO_BAD_SAMPLE: return "position mark above 2, or sent sample not finite";
+    case RUZNAVO_BAD_PAYLOAD: return "payload byte above 1";
+    case RUZNAVO_SHORT_OUTPUT: return "output too short";
+    case RUZNAVO_SHORT_WORK: return "workspace too short";
+    case RUZNAVO_BAD_LINE: return "line malformed";
+    default: return "unknown number";
+    }
+}
 
 /* The refusal number of an answer. */
 static inline unsigned ruznavo_number(uint64_t answer) { return (unsigned)(answer & 255); }
 
-/* The cycles of a plan, a plan check (one sweep) or a decode (all its sweeps), in the latency model. */
+/*
+ * The cycles of a plan, a plan check (one sweep) or a decode (all its sweeps). They are those of a hardware decoder's
+ * latency model, and not this processor's.
+ */
 static inline uint32_t ruznavo_cycles(uint64_t answer) { return (uint32_t)(answer >> 8); }
 
-/* The frozen check of a decode: 1 exactly if the decoded frozen bits are all 0. */
+/*
+ * The frozen check of a decode: 1 exactly if the decoded frozen bits are all 0, that is, if the hard word is a word of
+ * the code. It is no error detection: a wrong payload can have check 1, and a right one check 0. A host that must know
+ * puts a CRC into the payload.
+ */
 static inline unsigned ruznavo_check(uint64_t answer) { return (unsigned)(answer >> 40); }
 
 /*

@@ -1,6 +1,7 @@
 /*
  * Measures the stack that each call uses at N = 1024: the call runs on a stack of its own that was filled with a
- * pattern, and the bytes that no longer hold it are counted. Masks and plans are those that go deepest.
+ * pattern, and the bytes that no longer hold it are counted. Masks and plans are those that go deepest. Exit status 1 if
+ * a call uses more than ruznavo.h says, or is refused.
  */
 #define _DEFAULT_SOURCE
 #include "codes.h"
@@ -47,10 +48,11 @@ static size_t bytes_used(void (*call)(void)) {
     return STACK - free_bytes;
 }
 
-static int measure(const char *name, void (*call)(void)) {
-    size_t switching = bytes_used(none), used = bytes_used(call);
-    printf("stack of %s: %zu bytes\n", name, used - switching);
-    return ruznavo_number(answer) != RUZNAVO_OK;
+/* 0 if the call is accepted and uses less than the limit. */
+static int measure(const char *name, void (*call)(void), size_t limit) {
+    size_t switching = bytes_used(none), used = bytes_used(call) - switching;
+    printf("stack of %s: %zu bytes, less than %zu expected\n", name, used, limit);
+    return ruznavo_number(answer) != RUZNAVO_OK || used >= limit;
 }
 
 int main(void) {
@@ -60,9 +62,9 @@ int main(void) {
         mask[i] = (uint8_t)(i % 2 == 0 ? i / 2 % 2 : 1 - i / 2 % 2);
         samples[i] = (float)random_gauss(&r);
     }
-    int refused = measure("samples", call_samples) + measure("encode", call_encode) +
-                  measure("transform", call_transform) + measure("plan", call_plan);
+    int failed = measure("samples", call_samples, 200) + measure("encode", call_encode, 200) +
+                 measure("transform", call_transform, 200) + measure("plan", call_plan, 2000);
     leaf_plan(plan, N);
-    refused += measure("check_plan", call_check_plan) + measure("decode", call_decode);
-    return refused != 0;
+    failed += measure("check_plan", call_check_plan, 2000) + measure("decode", call_decode, 7000);
+    return failed != 0;
 }

@@ -119,13 +119,11 @@ static void random_bytes(struct random *r, uint8_t *bytes, size_t length) {
 
 struct code {
     size_t N, K, mask_length;
-    int n;
     uint8_t mask[LONGEST];
 };
 
 static void random_code(struct random *r, struct code *c) {
-    c->n = (int)random_from(r, 1, REF_MAX_STAGE);
-    c->N = c->mask_length = (size_t)1 << c->n;
+    c->N = c->mask_length = (size_t)1 << random_from(r, 1, REF_MAX_STAGE);
     random_bytes(r, c->mask, LONGEST);
     random_mask(r, c->mask, c->N);
     c->K = ref_unfrozen(c->mask, c->N);
@@ -383,7 +381,7 @@ static void damage_decode(struct random *r, struct code *c, struct plan *p, int1
     case 5: m->soft = too_short(r, c->N); break;
     case 6: m->hard = too_short(r, c->N); break;
     case 7: m->payload = too_short(r, c->K); break;
-    default: m->work = too_short(r, RUZNAVO_WORK_WORDS(c->N, c->n));
+    default: m->work = too_short(r, RUZNAVO_WORK_WORDS(c->N));
     }
 }
 
@@ -405,7 +403,7 @@ static void decode_case(struct random *r) {
     random_llrs(r, &c, llrs);
     size_t sweeps = (size_t)random_from(r, 1, random_chance(r, 0.2) ? RUZNAVO_MAX_SWEEPS : 3);
     struct rooms m = {
-        c.N, sweeps, enough(r, c.N), enough(r, c.N), enough(r, c.K), enough(r, RUZNAVO_WORK_WORDS(c.N, c.n))};
+        c.N, sweeps, enough(r, c.N), enough(r, c.N), enough(r, c.K), enough(r, RUZNAVO_WORK_WORDS(c.N))};
     for (int d = damages(r); d > 0; d--) damage_decode(r, &c, &p, llrs, &m);
     place(r, MASK, c.mask_length, 1, c.mask);
     place(r, PLAN_BYTES, p.length, 1, p.bytes);
@@ -509,6 +507,26 @@ static void run_frames(void) {
     if (memcmp(values[0], llrs, sizeof llrs) || memcmp(values[1], llrs, sizeof llrs)) stop("the samples");
 }
 
+/* ---- what the header itself has */
+
+/* Every number has a name of its own, and any other has the same one. */
+static void run_names(void) {
+    for (unsigned a = 0; a <= RUZNAVO_BAD_LINE + 1; a++)
+        for (unsigned b = 0; b < a; b++)
+            if (strcmp(ruznavo_number_name(a), ruznavo_number_name(b)) == 0) stop("two numbers of one name");
+    if (strcmp(ruznavo_number_name(RUZNAVO_BAD_LINE + 1), ruznavo_number_name(255))) stop("an unknown number's name");
+}
+
+static void run_header(void) {
+    char version[40];
+    snprintf(version, sizeof version, "%d.%d.%d", RUZNAVO_VERSION_MAJOR, RUZNAVO_VERSION_MINOR, RUZNAVO_VERSION_PATCH);
+    if (strcmp(version, RUZNAVO_VERSION)) stop("the version's text");
+    for (size_t n = 1, N = RUZNAVO_MIN_N; N <= RUZNAVO_MAX_N; n++, N *= 2)
+        if (RUZNAVO_WORK_WORDS(N) != N * (n + 3)) stop("the workspace's words");
+    if (RUZNAVO_MAX_WORK_WORDS != 1024 * 13) stop("the longest workspace");
+    run_names();
+}
+
 /* ---- what was tried */
 
 static void report(void) {
@@ -554,6 +572,7 @@ int main(int argc, char **argv) {
     signal(SIGSEGV, fault);
     signal(SIGBUS, fault);
     for (int s = 0; s < SLOTS; s++) guarded_map(&slots[s], slot_names[s]);
+    run_header();
     run_frames();
     run_counts();
     for (case_number = first; case_number < first + cases; case_number++) {
