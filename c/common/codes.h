@@ -15,8 +15,8 @@ void code_for_erasures(uint8_t *mask, size_t N, size_t K, double rate);
 
 /*
  * A polar code by polarization weight, which the masks of cellular standards resemble: the N - K positions with the
- * least weights are frozen. The weight of an index is the sum of 2^(b / 4) over its bits b that are 1, bit 0 the lowest.
- * No two of the weights are equal up to N = 1024, and the nearest differ by 0.0028, which double precision tells apart.
+ * least weights are frozen. The weight of an index is the sum of 2^(b / 4) over its bits b that are 1, bit 0 the
+ * lowest. Up to N = 1024 no two weights are equal: the nearest differ by 0.0028, which double precision tells apart.
  */
 void code_by_weight(uint8_t *mask, size_t N, size_t K);
 
