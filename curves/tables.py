@@ -8,7 +8,6 @@ import sys
 SWEEPS = (1, 2, 4, 8)
 CURVES = [("SC", 0)] + [(decoder, sweeps) for decoder in ("v/16", "v") for sweeps in SWEEPS]
 RATES = (0.1, 0.01, 0.001)
-COUNTS = ("frames", "block_errors", "wrong_passed", "right_failed")
 SHOWN_SCALES = (1, 4, 16, 256, 1024, 4096, 16384)
 
 
@@ -62,29 +61,29 @@ def nearest_point(rows, rate):
     return min(points, key=lambda row: abs(math.log(float(row["block_error_rate"]) / rate)))["ebn0_db"]
 
 
-def checks(masks, title, chosen):
-    """Wrong blocks that pass the frozen check, and right blocks that fail it; `chosen` gives the rows that count."""
-    columns = ["code | mask", "Eb/N0", "frames"] + [f"{s}: passed of wrong" for s in SWEEPS]
-    columns += [f"{s}: failed of right" for s in SWEEPS]
+def checks(masks):
+    """Wrong blocks that pass the frozen check, and right blocks that fail it."""
+    columns = ["code | mask", "Eb/N0"] + [f"wrong, passed: {s}" for s in SWEEPS]
+    columns += [f"right, failed: {s}" for s in SWEEPS]
     table = []
     for mask, rows in masks.items():
-        where, rows = chosen(rows)
-        by_sweeps = [of_curve(rows, ("v/16", s)) for s in SWEEPS]
-        totals = [{key: sum(int(row[key]) for row in points) for key in COUNTS} for points in by_sweeps]
-        passed = [f"{t['wrong_passed']} of {t['block_errors']}" for t in totals]
-        failed = [f"{t['right_failed']} of {t['frames'] - t['block_errors']}" for t in totals]
-        table.append([name(mask), where, str(totals[0]["frames"])] + passed + failed)
-    print_table(title, columns, table)
+        db = nearest_point(rows, 0.01)
+        points = [row for s in SWEEPS for row in of_curve(rows, ("v/16", s)) if row["ebn0_db"] == db]
+        passed = [f'{row["wrong_passed"]} of {row["block_errors"]}' for row in points]
+        failed = [f'{row["right_failed"]} of {int(row["frames"]) - int(row["block_errors"])}' for row in points]
+        table.append([name(mask), f"{float(db):g}"] + passed + failed)
+    print_table("Frozen check at v/16, at the point nearest to a block error rate of 0.01", columns, table)
 
 
-def at_one_percent(rows):
-    point = nearest_point(rows, 0.01)
-    return point, [row for row in rows if row["ebn0_db"] == point]
+def percent(part, whole):
+    share = 100 * part / whole
+    return f"{share:.2g}%" if share >= 0.01 else "below 0.01%"
 
 
-def at_all_points(rows):
-    points = [float(row["ebn0_db"]) for row in rows]
-    return f"{min(points):g} to {max(points):g}", rows
+def largest(row):
+    """The largest size of an LLR, with the share of LLRs that are clamped where any is."""
+    clamped = int(row["clamped"])
+    return row["largest"] + (f' ({percent(clamped, int(row["llrs"]))})' if clamped else "")
 
 
 def scales(masks):
@@ -94,9 +93,7 @@ def scales(masks):
         of = {int(row["scale"]): row for row in rows}
         head = [name(mask), f'{float(rows[0]["ebn0_db"]):g}']
         errors.append(head + [rows[0]["frames"], of[0]["block_errors"]] + [of[s]["block_errors"] for s in SHOWN_SCALES])
-        shares = [100 * int(of[s]["clamped"]) / int(of[s]["llrs"]) for s in SHOWN_SCALES]
-        sizes = [of[s]["largest"] + (f" ({share:.2g}%)" if share else "") for s, share in zip(SHOWN_SCALES, shares)]
-        clamps.append(head + sizes)
+        clamps.append(head + [largest(of[s]) for s in SHOWN_SCALES])
     print_table("Block errors by scale, 1 sweep", ["code | mask", "Eb/N0", "frames", "not rounded"] + names, errors)
     print_table("Largest LLR and share of LLRs clamped", ["code | mask", "Eb/N0"] + names, clamps)
 
@@ -108,8 +105,7 @@ def main():
     print(f"{frames} frames, compared with SCAN in {compared}")
     crossings(curves)
     scales(by_scale)
-    checks(curves, "Frozen check at v/16, at the point nearest to a block error rate of 0.01", at_one_percent)
-    checks(curves, "Frozen check at v/16, all points", at_all_points)
+    checks(curves)
 
 
 main()
