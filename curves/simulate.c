@@ -55,7 +55,7 @@ static void compare(const point *p, int scale, size_t sweep_count, const decoded
     if (same) return;
     fprintf(stderr, "\n(%zu,%zu) %.2f dB, frame %lu, %s, %zu sweeps", c.n, c.k, p->ebn0_db, p->frames,
             decoder_names[1 + scale], sweep_count);
-    fail(": the library differs from SCAN on the same LLRs");
+    fail("the library differs from SCAN on the same LLRs");
 }
 
 static void start_scan(scan *s, const int16_t *llrs) {
