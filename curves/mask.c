@@ -1,16 +1,26 @@
-// mask N K: prints the mask of the code by erasure rates (bench/channel.h), as one line of digits, 1 for a frozen
-// position.
+// mask RULE N K: prints the mask of a code, as one line of digits, 1 for a frozen position. Rules (c/common/codes.h):
+//   erasure  erasure rates, for an erasure channel of rate 1/2
+//   weight   polarization weight
 #include "channel.h"
+#include "codes.h"
 
 #include <stdio.h>
 #include <stdlib.h>
+#include <string.h>
+
+static int usage(void) {
+    fputs("usage: mask erasure|weight N K, N a power of two from 2 to 1024, K at most N\n", stderr);
+    return 2;
+}
 
 int main(int count, char **words) {
-    size_t n = count == 3 ? strtoul(words[1], NULL, 10) : 0, k = count == 3 ? strtoul(words[2], NULL, 10) : 0;
-    if (n < 2 || n > MAX_N || (n & (n - 1)) || k > n)
-        return fprintf(stderr, "usage: mask N K, N a power of two from 2 to 1024\n"), 2;
+    if (count != 4) return usage();
+    size_t n = strtoul(words[2], NULL, 10), k = strtoul(words[3], NULL, 10);
+    if (n < 2 || n > MAX_N || (n & (n - 1)) || k > n) return usage();
     uint8_t mask[MAX_N];
-    make_mask(mask, n, k);
+    if (!strcmp(words[1], "erasure")) make_mask(mask, n, k);
+    else if (!strcmp(words[1], "weight")) code_by_weight(mask, n, k);
+    else return usage();
     for (size_t i = 0; i < n; i++) putchar('0' + mask[i]);
     putchar('\n');
     return 0;

@@ -1,13 +1,13 @@
 // Block and bit error rates over the library's C interface: random payloads, encoder, BPSK with Gaussian noise, front
-// end, decoder at several numbers of sweeps. Beside it floating-point SCAN walked to the last leaf, on the same frames:
-//   whole  the library
-//   float  floating-point SCAN on 2y/v, not rounded
-// Floating-point SCAN on the front end's LLRs must give the library's soft values, bits, payload and frozen check in
-// every frame; the first difference ends the run with exit status 1.
+// end, decoder. On the same frames:
+//   SC          successive cancellation, floating-point, on 2y/v, not rounded
+//   v/16, v     the library at several numbers of sweeps, its front end working with the noise variance v / 16 and v
+// In every frame, or in every so many, floating-point SCAN walked to the last leaf on the front end's LLRs must give
+// the library's soft values, bits, payload and frozen check; the first difference ends the run with exit status 1.
 #define _POSIX_C_SOURCE 200809L
-#include "channel.h"
-#include "reference.h"
+#include "frames.h"
 #include "ruznavo.h"
+#include "sc.h"
 #include "scan.h"
 
 #include <math.h>
@@ -16,114 +16,80 @@
 #include <string.h>
 #include <time.h>
 
-enum { SWEEPS = 4, WHOLE = 0, FLOAT = 1, DECODERS = 2, MAX_POINTS = 64 };
+enum { SWEEPS = 4, SCALES = 2, SC = 0, CURVES = 1 + SCALES * SWEEPS, MAX_POINTS = 64 };
 static const size_t sweeps[SWEEPS] = {1, 2, 4, 8};
-static const char *const decoder_names[DECODERS] = {"whole", "float"};
+static const float scales[SCALES] = {16, 1};
+static const char *const decoder_names[1 + SCALES] = {"SC", "v/16", "v"};
 
-static size_t n, k;
-static uint8_t mask[MAX_N], plan[2 * MAX_N];
+static code c;
+
+// What is counted of one decoder. A block is right if all its payload bits are.
+typedef struct {
+    unsigned long block_errors, bit_errors;
+    unsigned long wrong_passed; // wrong blocks with frozen check 1
+    unsigned long right_failed; // right blocks with frozen check 0
+} tally;
 
 typedef struct {
-    unsigned long block_errors[DECODERS][SWEEPS], bit_errors[DECODERS][SWEEPS], frames;
+    tally tallies[CURVES]; // SC, then by scale and sweeps
+    unsigned long frames, compared;
     double ebn0_db;
 } point;
 
-static void fail(const char *what) {
-    fprintf(stderr, "\nsimulate: %s\n", what);
-    exit(1);
-}
-
-// One line of digits, ended by a line feed.
-static void read_mask(const char *path) {
-    FILE *file = fopen(path, "r");
-    if (!file) fail("the mask file can't be read");
-    int c;
-    while ((c = getc(file)) == '0' || c == '1') {
-        if (n == MAX_N) fail("the mask is too long");
-        mask[n++] = (uint8_t)(c - '0');
-    }
-    if (c != '\n') fail("the mask is not one line of digits 0 and 1");
-    fclose(file);
-    k = ref_unfrozen(mask, n);
-    uint32_t counts[RUZNAVO_KINDS];
-    if (ruznavo_number(ruznavo_plan(mask, n, plan, 2 * n, counts))) fail("the mask is turned down");
-    if (k == 0) fail("the mask has no unfrozen position");
-}
-
-// A frame: what was sent, what was received, and its LLRs.
-typedef struct {
-    uint8_t payload[MAX_N];
-    float samples[MAX_N];
-    int16_t llrs[MAX_N];
-    float variance;
-} frame;
-
-static void make_frame(struct random *r, double ebn0_db, frame *f) {
-    static const uint8_t sent[MAX_N] = {0};
-    uint8_t word[MAX_N];
-    for (size_t i = 0; i < k; i++) f->payload[i] = random_bits(r) >> 63;
-    if (ruznavo_encode(mask, n, f->payload, k, word, n)) fail("the encoder turned a payload down");
-    f->variance = (float)noise_variance(n, k, ebn0_db);
-    transmit(r, word, n, f->variance, f->samples);
-    if (ruznavo_samples(f->samples, n, sent, n, f->variance, f->llrs, n)) fail("the front end turned samples down");
-}
-
-static void count_errors(point *p, int decoder, int s, const uint8_t *sent, const uint8_t *decoded) {
-    unsigned long wrong = 0;
-    for (size_t i = 0; i < k; i++) wrong += sent[i] != decoded[i];
-    p->bit_errors[decoder][s] += wrong;
-    p->block_errors[decoder][s] += wrong > 0;
-}
-
-// What the library gives for a frame.
-typedef struct {
-    int32_t soft[MAX_N];
-    uint8_t hard[MAX_N], payload[MAX_N];
-    int frozen_check;
-} whole_result;
-
-static void decode_whole(const frame *f, size_t count, whole_result *w) {
-    static int32_t work[RUZNAVO_MAX_WORK_WORDS];
-    uint64_t answer = ruznavo_decode(mask, n, plan, 2 * n, count, f->llrs, n, w->soft, n, w->hard, n, w->payload, k,
-                                     work, RUZNAVO_MAX_WORK_WORDS);
-    if (ruznavo_number(answer)) fail("the decoder turned a frame down");
-    w->frozen_check = (int)ruznavo_check(answer);
+static void count(tally *t, const frame *f, const uint8_t *payload, int frozen_check) {
+    unsigned long wrong = wrong_bits(&c, f, payload);
+    t->bit_errors += wrong;
+    t->block_errors += wrong > 0;
+    t->wrong_passed += wrong > 0 && frozen_check;
+    t->right_failed += wrong == 0 && !frozen_check;
 }
 
 static int same_soft(int32_t whole, double value) {
     return whole == RUZNAVO_CERTAIN ? isinf(value) && value > 0 : value == whole;
 }
 
-static void compare(const point *p, size_t count, const whole_result *w, const scan_result *s) {
-    int same = w->frozen_check == s->frozen_check && !memcmp(w->hard, s->hard, n) && !memcmp(w->payload, s->payload, k);
-    for (size_t i = 0; i < n; i++) same &= same_soft(w->soft[i], s->soft[i]);
+static void compare(const point *p, int scale, size_t sweep_count, const decoded *d, const scan_result *s) {
+    int same = d->frozen_check == s->frozen_check && !memcmp(d->hard, s->hard, c.n) &&
+               !memcmp(d->payload, s->payload, c.k);
+    for (size_t i = 0; i < c.n; i++) same &= same_soft(d->soft[i], s->soft[i]);
     if (same) return;
-    fprintf(stderr, "\n(%zu,%zu) %.2f dB, frame %lu, %zu sweeps", n, k, p->ebn0_db, p->frames, count);
+    fprintf(stderr, "\n(%zu,%zu) %.2f dB, frame %lu, %s, %zu sweeps", c.n, c.k, p->ebn0_db, p->frames,
+            decoder_names[1 + scale], sweep_count);
     fail("the library differs from SCAN on the same LLRs");
 }
 
-// Decodes a frame in all ways, compares and counts.
-static void decode_frame(point *p, const frame *f) {
-    static scan exact, rounded;
-    double llrs[MAX_N], rounded_llrs[MAX_N];
-    for (size_t i = 0; i < n; i++) {
-        llrs[i] = 2 * (double)f->samples[i] / f->variance;
-        rounded_llrs[i] = f->llrs[i];
-    }
-    scan_start(&exact, mask, n, llrs);
-    scan_start(&rounded, mask, n, rounded_llrs);
+static void start_scan(scan *s, const int16_t *llrs) {
+    double values[MAX_N];
+    for (size_t i = 0; i < c.n; i++) values[i] = llrs[i];
+    scan_start(s, c.mask, c.n, values);
+}
+
+// Decodes a frame by the library at each number of sweeps, counts, and compares where that is wanted.
+static void decode_at_scale(point *p, const frame *f, int scale, int comparing) {
+    static scan walk;
+    static scan_result result;
+    static decoded d;
+    int16_t llrs[MAX_N];
+    make_llrs(&c, f, scales[scale], llrs);
+    if (comparing) start_scan(&walk, llrs);
     size_t done = 0;
     for (int s = 0; s < SWEEPS; s++) {
-        for (; done < sweeps[s]; done++) scan_sweep(&exact), scan_sweep(&rounded);
-        static scan_result result;
-        static whole_result whole;
-        decode_whole(f, sweeps[s], &whole);
-        scan_read(&rounded, &result);
-        compare(p, sweeps[s], &whole, &result);
-        count_errors(p, WHOLE, s, f->payload, whole.payload);
-        scan_read(&exact, &result);
-        count_errors(p, FLOAT, s, f->payload, result.payload);
+        decode(&c, llrs, sweeps[s], &d);
+        count(&p->tallies[1 + scale * SWEEPS + s], f, d.payload, d.frozen_check);
+        if (!comparing) continue;
+        for (; done < sweeps[s]; done++) scan_sweep(&walk);
+        scan_read(&walk, &result);
+        compare(p, scale, sweeps[s], &d, &result);
     }
+}
+
+// The decided frozen bits of SC are 0, so its blocks pass the frozen check.
+static void decode_by_sc(point *p, const frame *f) {
+    float llrs[MAX_N];
+    uint8_t payload[MAX_N];
+    for (size_t i = 0; i < c.n; i++) llrs[i] = 2 * f->samples[i] / f->variance;
+    sc_decode(c.mask, c.n, llrs, payload);
+    count(&p->tallies[SC], f, payload, 1);
 }
 
 static void show_progress(const point *p, int last) {
@@ -133,30 +99,37 @@ static void show_progress(const point *p, int last) {
     double time = (double)t.tv_sec + (double)t.tv_nsec / 1e9;
     if (!last && time < shown + 0.5) return;
     shown = time;
-    fprintf(stderr, "\r(%zu,%zu) %.2f dB: %lu frames, block errors", n, k, p->ebn0_db, p->frames);
-    for (int d = 0; d < DECODERS; d++) {
-        fprintf(stderr, " %s", decoder_names[d]);
-        for (int s = 0; s < SWEEPS; s++) fprintf(stderr, "%c%lu", s ? '/' : ' ', p->block_errors[d][s]);
-    }
+    fprintf(stderr, "\r%s %.2f dB: %lu frames, block errors", c.name, p->ebn0_db, p->frames);
+    for (int i = 0; i < CURVES; i++) fprintf(stderr, " %lu", p->tallies[i].block_errors);
     fputs(last ? "\n" : "  ", stderr);
 }
 
 static int has_errors(const point *p, unsigned long wanted) {
-    for (int d = 0; d < DECODERS; d++)
-        for (int s = 0; s < SWEEPS; s++)
-            if (p->block_errors[d][s] < wanted) return 0;
+    for (int i = 0; i < CURVES; i++)
+        if (p->tallies[i].block_errors < wanted) return 0;
     return 1;
 }
 
-// Simulates until each curve has the block errors wanted, or the frames are used up. The frames of a point depend on
-// the seed and on Eb/N0 only.
-static void simulate(point *p, unsigned long most_frames, unsigned long errors, uint64_t seed) {
+// What is asked of the simulation, beside the code and Eb/N0.
+typedef struct {
+    unsigned long least_frames, most_frames, block_errors, compare_every;
+    uint64_t seed;
+} settings;
+
+static int is_done(const point *p, const settings *s) {
+    return p->frames >= s->most_frames || (p->frames >= s->least_frames && has_errors(p, s->block_errors));
+}
+
+// Simulates the least frames, and on until each curve has the block errors wanted or the frames are used up.
+static void simulate(point *p, const settings *s) {
     static frame f;
-    struct random r = random_case(seed, (uint64_t)llround(1000 * p->ebn0_db));
-    while (p->frames < most_frames && !has_errors(p, errors)) {
-        p->frames++;
-        make_frame(&r, p->ebn0_db, &f);
-        decode_frame(p, &f);
+    struct random r = frames_at(p->ebn0_db, s->seed);
+    while (!is_done(p, s)) {
+        int comparing = p->frames++ % s->compare_every == 0;
+        p->compared += comparing;
+        make_frame(&c, &r, p->ebn0_db, &f);
+        decode_by_sc(p, &f);
+        for (int scale = 0; scale < SCALES; scale++) decode_at_scale(p, &f, scale, comparing);
         show_progress(p, 0);
     }
     show_progress(p, 1);
@@ -170,22 +143,25 @@ static void wilson(double errors, double frames, double *low, double *high) {
     *high = (middle + spread) / (1 + width);
 }
 
+static void write_row(FILE *csv, const point *p, const char *decoder, size_t sweep_count, const tally *t) {
+    double low, high, errors = (double)t->block_errors, frames = (double)p->frames;
+    wilson(errors, frames, &low, &high);
+    fprintf(csv, "%s,%zu,%zu,%.2f,%s,%zu,%lu,%lu,%lu,%lu,%lu,%lu,%lu,%.6g,%.6g,%.6g\n", c.name, c.n, c.k, p->ebn0_db,
+            decoder, sweep_count, p->frames, p->compared, t->block_errors, t->wrong_passed, t->right_failed,
+            t->bit_errors, p->frames * c.k, errors / frames, low, high);
+}
+
 static void write_rows(FILE *csv, const point *p) {
-    for (int d = 0; d < DECODERS; d++)
-        for (int s = 0; s < SWEEPS; s++) {
-            double low, high, errors = (double)p->block_errors[d][s], frames = (double)p->frames;
-            wilson(errors, frames, &low, &high);
-            fprintf(csv, "%zu,%zu,%.2f,%zu,%s,%lu,%lu,%lu,%lu,%.6g,%.6g,%.6g\n", n, k, p->ebn0_db, sweeps[s],
-                    decoder_names[d], p->frames, p->block_errors[d][s], p->bit_errors[d][s], p->frames * k,
-                    errors / frames, low, high);
-        }
+    write_row(csv, p, decoder_names[0], 0, &p->tallies[SC]);
+    for (int scale = 0; scale < SCALES; scale++)
+        for (int s = 0; s < SWEEPS; s++)
+            write_row(csv, p, decoder_names[1 + scale], sweeps[s], &p->tallies[1 + scale * SWEEPS + s]);
     fflush(csv);
 }
 
 static void print_row(const point *p) {
-    printf("(%4zu,%3zu) %6.2f %8lu", n, k, p->ebn0_db, p->frames);
-    for (int s = 0; s < SWEEPS; s++)
-        for (int d = 0; d < DECODERS; d++) printf(" %9.2e", (double)p->block_errors[d][s] / (double)p->frames);
+    printf("(%4zu,%3zu) %6.2f %8lu", c.n, c.k, p->ebn0_db, p->frames);
+    for (int i = 0; i < CURVES; i++) printf(" %8.2e", (double)p->tallies[i].block_errors / (double)p->frames);
     printf("\n");
     fflush(stdout);
 }
@@ -195,42 +171,58 @@ static int read_range(const char *text, double *points) {
     double from, step, to;
     char rest;
     if (sscanf(text, "%lf:%lf:%lf%c", &from, &step, &to, &rest) != 3 || !(step >= 0.01) || !(to >= from)) return 0;
-    int count = 0;
-    for (; count < MAX_POINTS && from + count * step <= to + step / 1000; count++) points[count] = from + count * step;
-    return count;
+    int points_read = 0;
+    for (; points_read < MAX_POINTS && from + points_read * step <= to + step / 1000; points_read++)
+        points[points_read] = from + points_read * step;
+    return points_read;
 }
 
 static void print_heading(void) {
-    puts("block error rates by sweeps (whole: the library; float: floating-point SCAN, LLRs not rounded)");
-    printf("code        Eb/N0   frames");
-    for (int s = 0; s < SWEEPS; s++)
-        for (int d = 0; d < DECODERS; d++) printf("   %s %zu", decoder_names[d], sweeps[s]);
+    printf("%s: block error rates, SC and the library by scale and sweeps\n", c.name);
+    printf("code        Eb/N0   frames       SC");
+    for (int scale = 0; scale < SCALES; scale++)
+        for (int s = 0; s < SWEEPS; s++) printf(" %6s %zu", decoder_names[1 + scale], sweeps[s]);
     printf("\n");
 }
 
 static int usage(void) {
-    fputs("usage: simulate MASK-FILE FROM:STEP:TO MOST-FRAMES BLOCK-ERRORS SEED CSV-FILE (Eb/N0 in dB)\n", stderr);
+    fputs("usage: simulate MASK-FILE FROM:STEP:TO LEAST:MOST BLOCK-ERRORS COMPARE-EVERY SEED CSV-FILE\n"
+          "Eb/N0 in dB; frames of a point; every so many frames the library is compared with SCAN: 1 for all\n",
+          stderr);
     return 2;
 }
 
-int main(int count, char **words) {
+static int read_settings(char **words, settings *s) {
+    char rest;
+    int fits = sscanf(words[0], "%lu:%lu%c", &s->least_frames, &s->most_frames, &rest) == 2;
+    s->block_errors = strtoul(words[1], NULL, 10);
+    s->compare_every = strtoul(words[2], NULL, 10);
+    s->seed = strtoull(words[3], NULL, 10);
+    return fits && s->most_frames && s->block_errors && s->compare_every;
+}
+
+static const char columns[] = "mask,n,k,ebn0_db,decoder,sweeps,frames,compared,block_errors,wrong_passed,right_failed,"
+                              "bit_errors,bits,block_error_rate,low_95,high_95\n";
+
+int main(int word_count, char **words) {
     double points[MAX_POINTS];
-    int point_count = count == 7 ? read_range(words[2], points) : 0;
+    settings s;
+    int point_count = word_count == 8 && read_settings(words + 3, &s) ? read_range(words[2], points) : 0;
     if (point_count == 0) return usage();
-    read_mask(words[1]);
-    FILE *csv = fopen(words[6], "w");
-    if (!csv) return perror(words[6]), 2;
-    fprintf(csv, "n,k,ebn0_db,sweeps,decoder,frames,block_errors,bit_errors,bits,block_error_rate,low_95,high_95\n");
+    read_code(&c, words[1]);
+    FILE *csv = fopen(words[7], "w");
+    if (!csv) return perror(words[7]), 2;
+    fputs(columns, csv);
     print_heading();
-    unsigned long frames = 0;
+    unsigned long frames = 0, compared = 0;
     for (int i = 0; i < point_count; i++) {
         point p = {.ebn0_db = points[i]};
-        simulate(&p, strtoul(words[3], NULL, 10), strtoul(words[4], NULL, 10), strtoull(words[5], NULL, 10));
-        if (p.frames == 0) fail("no frames");
+        simulate(&p, &s);
         frames += p.frames;
+        compared += p.compared;
         write_rows(csv, &p);
         print_row(&p);
     }
-    printf("the library equals SCAN on the same LLRs in all %lu frames\n", frames);
+    printf("compared with SCAN on the same LLRs in %lu of %lu frames: no difference\n", compared, frames);
     return fclose(csv) ? 1 : 0;
 }

@@ -3,7 +3,19 @@
 
 #include "reference.h"
 
+#include <math.h>
 #include <string.h>
+
+/* Freezes the N - K worst positions; of equally bad ones, the lower index is frozen first. */
+static void freeze_worst(uint8_t *mask, size_t N, size_t K, const double *badness) {
+    memset(mask, 0, N);
+    for (size_t count = K; count < N; count++) {
+        size_t worst = N;
+        for (size_t i = 0; i < N; i++)
+            if (!mask[i] && (worst == N || badness[i] > badness[worst])) worst = i;
+        mask[worst] = 1;
+    }
+}
 
 void code_for_erasures(uint8_t *mask, size_t N, size_t K, double rate) {
     double z[REF_MAX_N];
@@ -14,13 +26,16 @@ void code_for_erasures(uint8_t *mask, size_t N, size_t K, double rate) {
             z[2 * i] = 2 * a - a * a;
             z[2 * i + 1] = a * a;
         }
-    memset(mask, 0, N);
-    for (size_t count = K; count < N; count++) {
-        size_t worst = N;
-        for (size_t i = 0; i < N; i++)
-            if (!mask[i] && (worst == N || z[i] > z[worst])) worst = i;
-        mask[worst] = 1;
+    freeze_worst(mask, N, K, z);
+}
+
+void code_by_weight(uint8_t *mask, size_t N, size_t K) {
+    double less[REF_MAX_N]; /* 0 less the weight */
+    for (size_t i = 0; i < N; i++) {
+        less[i] = 0;
+        for (int b = 0; i >> b; b++) less[i] -= (i >> b & 1) ? pow(2, b / 4.0) : 0;
     }
+    freeze_worst(mask, N, K, less);
 }
 
 /* One kind's pattern, from a size at which it exists. */
