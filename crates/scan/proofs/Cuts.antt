@@ -24,8 +24,9 @@ use Rattle.words.proofs.Laws.{soft-word, soft-at, small-size}
 use Rattle.words.proofs.Store.{write-ext}
 use Rattle.messages.proofs.Messages.{zero-value, rate-one-value}
 use Rattle.kinds.specs.Known.{FixedAs}
-use Rattle.scan.specs.Space.{constant, treeAt, begun, Room, Visited}
+use Rattle.scan.specs.Space.{constant, treeAt, begun, CutNode, Room, Visited}
 use Rattle.messages.specs.Cut.{cutWords}
+use Rattle.messages.proofs.Sizes.{kind-sized}
 use Rattle.scan.proofs.Begun.{begun-put}
 use Rattle.scan.proofs.Known.{both-true, is-kind}
 use Rattle.scan.proofs.Keep.{Fit, kept-row, node-path, under, stored-at}
@@ -146,3 +147,19 @@ incoming {t = t} {s = s} {x = x} {w = w} room q = record {
   small = λ k lt. small-size (room .bound) (word w (x + k)) (subst (Small (room .bound)) (soft-at w x (2 ^ t) k (omega (arith, room .size))) (room .small q k (omega (arith, room .size))));
   room = omega (arith, room .limited, ap (λ (z : ℕ). room .bound * z) (room .size));
 }
+
+-- what the message of a cut node requires, and what it leaves
+module _ {plan mask : List ℕ} {N t s p b x : ℕ} {first : Bool} {w : List ℤ} (room : Room plan mask N t s p b x first w) (cut : isCut plan p ≡ true) where
+  kind-here : kindOf s (part mask b s) ≡ kindOf (2 ^ t) (part mask b (2 ^ t))
+  kind-here = kind-stage mask b s t (room .size)
+
+  pub cut-asked : CutNode mask (t * N + b) x b s w
+  cut-asked = record {
+    fits = (omega (arith, room .rows, room .within), omega (arith, room .fit), room .masked);
+    some-kind = subst (λ (o : Option Kind). T (isSome o)) (sym kind-here) (wellCut-cut plan t p (part mask b (2 ^ t)) cut (room .cuts));
+    sized = kind-sized s t (part mask b s) (room .size);
+    looked = λ q. incoming room (ap₂ (λ (x y : Bool). x && y) cut (sym (ap isRate01 kind-here) ∙ q));
+  }
+
+  pub cut-visited : (v : List ℤ) → v ≡ cutWords (kindOf s (part mask b s)) w (t * N + b) x s → Visited plan mask N t p b x first w v
+  cut-visited v e = visited-cut plan mask N t s p b x first w v room cut (e ∙ ap (λ (o : Option Kind). cutWords o w (t * N + b) x s) kind-here)

@@ -10,10 +10,11 @@ use lib.ListN.{length}
 use Rattle.model.specs.Lists.{part}
 use Rattle.model.specs.Soft.{maxLlr}
 use Rattle.model.specs.Scan.{Tree, leaf, node, message, left, right, start, sweeps}
-use Rattle.model.specs.Kinds.{kindOf}
+use Rattle.model.specs.Kinds.{kindOf, isSome}
 use Rattle.model.specs.Plans.{isCut, isRate01, wellCut, put, walk, Stays, Allowed}
 use Rattle.model.specs.Bounds.{SmallAll, Held, limit}
-use Rattle.words.specs.Words.{word, soft, write}
+use Rattle.words.specs.Words.{word, soft, write, Incoming}
+use Rattle.messages.specs.Cut.{Sized, leastOf}
 
 -- the tree of the node of stage t whose first position is b: word u * N + i is the message of stage u at position i
 unfoldable pub treeAt : ℕ → List ℤ → ℕ → ℕ → Tree
@@ -34,6 +35,13 @@ begun first plan t p mask T = cond first (overlaid plan t p (start t mask) T) T
 -- a cut rate-0 or rate-1 node: its message does not depend on what it is handed
 abbrev pub constant : List ℕ → ℕ → ℕ → List ℕ → Bool
 constant plan m p mask = isCut plan p && isRate01 (kindOf m mask)
+
+-- what the message of a cut node requires: its s positions are those from b on, its message is stored at m and its incoming list is at x
+pub record CutNode (mask : List ℕ) (m x b s : ℕ) (w : List ℤ) : Type 0 where
+  pub fits : (m + s ≤ x) × (x + s ≤ length w) × (b + s ≤ length mask)
+  pub some-kind : T (isSome (kindOf s (part mask b s)))
+  pub sized : Sized (leastOf (kindOf s (part mask b s))) s
+  pub looked : isRate01 (kindOf s (part mask b s)) ≡ false → Incoming w x s
 
 -- what a visit of node p at stage t, of s positions from b on, with its incoming list at x, requires; the mask has N positions.
 -- Messages below a cut are not mentioned, nor are stored messages in the first sweep.

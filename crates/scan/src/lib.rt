@@ -20,11 +20,15 @@ ghost use lib.ListN.{length};
 ghost use lib.IntN.{pos};
 ghost use mathlib.Core.List.{map};
 ghost use Rattle.model.specs.Soft.{finite, mark};
+ghost use Rattle.model.specs.Lists.{part};
 ghost use Rattle.model.specs.Scan.{scan};
+ghost use Rattle.model.specs.Kinds.{kindOf};
+ghost use Rattle.model.specs.Plans.{isCut};
+ghost use Rattle.messages.specs.Cut.{cutWords};
 ghost use Rattle.words.specs.Words.{stored, write, Holds};
 ghost use Rattle.halves.specs.Halves.{Places, Combinable, RightListAt, nodeWords};
 ghost use mathlib.Core.Bool.{true, false, cond, _||_};
-ghost use Rattle.scan.specs.Space.{Room, Visited, Ready, Swept, withLlrs, Decodable};
+ghost use Rattle.scan.specs.Space.{CutNode, Room, Visited, Ready, Swept, withLlrs, Decodable};
 
 // The message of a child whose message is fixed, at m: certain or 0 everywhere.
 fn fixed_child(w: &mut [i32], child: Fixed, m: usize, s: usize)
@@ -68,9 +72,19 @@ fn own_message(
     }
 }
 
-// Visits a node: its number is `node`, its stage `stage`, its `size` positions are those from `from` on, and its incoming list is at `list`. The mask has
+// The message of a cut node, at m: its `size` positions are those from `from` on, and its incoming list is at x.
+fn cut_node(work: &mut [i32], mask: &[u8], m: usize, x: usize, from: usize, size: usize)
+    requires { ⌜ CutNode (now mask) m x from size (now work) ⌝ }
+    ensures { λ _. ⌜ now (work .exit) ≡ cutWords (kindOf size (part (now (mask .entry)) from size)) (now (work .entry)) m x size ⌝ }
+{
+    let end = from + size;
+    let k = cut_kind(&mask[from..end]);
+    cut_message(work, k, m, x, size);
+}
+
+// Visits an uncut node: its number is `node`, its stage `stage`, its `size` positions are those from `from` on, and its incoming list is at `list`. The mask has
 // `len` positions (N in the specs), and the message of stage u at position i is at u * N + i. In the first sweep no stored message is read before it is
-// written. Messages of the node and of its children are at m, l and r; a child's incoming list is made at c.
+// written. Messages of the node and of its children are at m, l and r; a child's incoming list is made at c. A cut child takes no visit.
 fn visit(
     work: &mut [i32],
     plan: &[u8],
@@ -83,17 +97,10 @@ fn visit(
     list: usize,
     first: bool,
 )
-    requires { ⌜ Room (now plan) (now mask) len stage size node from list first (now work) ⌝ }
+    requires { ⌜ Room (now plan) (now mask) len stage size node from list first (now work) × (isCut (now plan) node ≡ false) ⌝ }
     ensures { λ _. ⌜ Visited (now (plan .entry)) (now (mask .entry)) len stage node from list first (now (work .entry)) (now (work .exit)) ⌝ }
 {
     let m = stage * len + from;
-    let cut = plan[node];
-    if cut == 1 {
-        let end = from + size;
-        let k = cut_kind(&mask[from..end]);
-        cut_message(work, k, m, list, size);
-        return;
-    }
     let h = size / 2;
     let below = stage - 1;
     let l = below * len + from;
@@ -106,26 +113,38 @@ fn visit(
         fixed_child(work, left, l, h);
     } else {
         left_list(work, first, c, list, r, h);
-        visit(work, plan, mask, len, below, h, child, from, c, first);
+        if plan[child] == 1 {
+            cut_node(work, mask, l, c, from, h);
+        } else {
+            visit(work, plan, mask, len, below, h, child, from, c, first);
+        }
     }
     let right = fixed_message(plan, mask, child + 1, middle, h);
     if is_fixed(right) {
         fixed_child(work, right, r, h);
     } else {
         right_list(work, left.certain, c, list, l, h);
-        visit(work, plan, mask, len, below, h, child + 1, middle, c, first);
+        if plan[child + 1] == 1 {
+            cut_node(work, mask, r, c, middle, h);
+        } else {
+            visit(work, plan, mask, len, below, h, child + 1, middle, c, first);
+        }
     }
     own_message(work, left, right, m, list, l, c, h);
 }
 
-// One sweep along the plan: a visit of the root, which is of this stage, with the incoming list that stands past the rows of messages. The first sweep
+// One sweep along the plan: a visit of the root, unless it is cut, which is of this stage, with the incoming list that stands past the rows of messages. The first sweep
 // takes the messages before it as they are by definition, whatever is stored.
 pub fn sweep(work: &mut [i32], plan: &[u8], mask: &[u8], len: usize, stage: usize, first: bool)
     requires { ⌜ Ready (now plan) (now mask) len stage first (now work) ⌝ }
     ensures { λ _. ⌜ Swept (now (plan .entry)) (now (mask .entry)) len stage first 1 (now (work .entry)) (now (work .exit)) ⌝ }
 {
     let list = len * (stage + 1);
-    visit(work, plan, mask, len, stage, len, 1, 0, list, first);
+    if plan[1] == 1 {
+        cut_node(work, mask, stage * len, list, 0, len);
+    } else {
+        visit(work, plan, mask, len, stage, len, 1, 0, list, first);
+    }
 }
 
 // As many sweeps as `count` says, with the same plan.

@@ -2,37 +2,30 @@
 -- are linear arithmetic over `Numbers`. Assumes nothing.
 use mathlib.Core.Path.{_≡_, sym, ap, _∙_, subst}
 use mathlib.Core.Logic.{⊎-elim}
-use mathlib.Core.Bool.{Bool, true, false, cond, _&&_, _||_}
-use mathlib.Core.Option.{Option}
+use mathlib.Core.Bool.{true, false, cond, _||_}
 use Prim.Native.Nat.{ℕ, _<_, _+_, _*_, _-_, _/_, _^_}
 use native.Mathlib.Omega.{arith}
-use lib.Dec.{T}
 use lib.ListN.{length, getD}
 use borrow.Author.Tests.{eq-eqb, ne-eqb}
 use borrow.Fn.Kinds.{In}
 use borrow.Fn.PlainCycle.{Measures, is, falls, and}
-use Rattle.model.specs.Kinds.{Kind, isSome, kindOf}
-use Rattle.model.specs.Plans.{isCut, isRate01}
+use Rattle.model.specs.Kinds.{kindOf}
+use Rattle.messages.specs.Cut.{cutWords}
 use lib.IntN.{ℤ, pos}
 use mathlib.Core.List.{List}
 use Rattle.model.specs.Soft.{mark}
 use Rattle.words.specs.Words.{write}
 use Rattle.model.specs.Lists.{part}
-use Rattle.scan.specs.Space.{Visited}
-use Rattle.kinds.proofs.Runs.{kind-part}
-use Rattle.messages.specs.Cut.{cutWords, Sized, leastOf}
-use Rattle.messages.proofs.Sizes.{kind-sized}
-use Rattle.scan.proofs.Nodes.{Numbers, numbers-of, inside}
-use Rattle.model.proofs.Paths.{wellCut-cut}
+use Rattle.scan.specs.Space.{CutNode, Room, Visited}
+use Rattle.scan.proofs.Nodes.{Numbers, numbers-of}
 use Rattle.scan.proofs.Runs.{Run, AfterLeft, AfterRight, LeftDone, RightDone, no-list, a-list, run}
-use Rattle.scan.proofs.Cuts.{not-leaf, kind-stage, incoming, visited-cut, visited-fixed}
+use Rattle.scan.proofs.Cuts.{not-leaf, visited-fixed, cut-asked, cut-visited}
 use Rattle.scan.proofs.+visit.{statement}
 use Rattle.scan.proofs.+visit.Tie.{close}
 use Rattle.scan.proofs.visit.Reads as visit
 use Rattle.scan.proofs.visit.Kinds as visit-kinds
 use Rattle.scan.proofs.+visit.Lts-visit as visit-lts
-use Rattle.kinds.proofs.cut_kind.Reads as cut-kind-reads
-use Rattle.messages.proofs.cut_message.Reads as cut-message-reads
+use Rattle.scan.proofs.cut_node.Reads as cut-node-reads
 use Rattle.kinds.proofs.fixed_message.Reads as fixed-message-reads
 use Rattle.kinds.proofs.is_fixed.Reads as is-fixed-reads
 use Rattle.scan.proofs.fixed_child.Reads as fixed-child-reads
@@ -51,95 +44,61 @@ visit-below t = and 3 visit-kinds.ps (falls 3 visit-kinds.ps _<_ μ-visit t) vis
 
 -- what the callees ask and ensure
 abbrev around : ℕ → visit-lts.Claims
-around t = (cut-kind-reads.Asked, cut-kind-reads.Learnt, cut-message-reads.Asked, cut-message-reads.Learnt, fixed-message-reads.Asked, fixed-message-reads.Learnt, is-fixed-reads.Asked, is-fixed-reads.Learnt, fixed-child-reads.Asked, fixed-child-reads.Learnt, left-list-reads.Asked, left-list-reads.Learnt, visit-below t, visit.Post, right-list-reads.Asked, right-list-reads.Learnt, own-message-reads.Asked, own-message-reads.Learnt)
+around t = (fixed-message-reads.Asked, fixed-message-reads.Learnt, is-fixed-reads.Asked, is-fixed-reads.Learnt, fixed-child-reads.Asked, fixed-child-reads.Learnt, left-list-reads.Asked, left-list-reads.Learnt, cut-node-reads.Asked, cut-node-reads.Learnt, visit-below t, visit.Post, right-list-reads.Asked, right-list-reads.Learnt, own-message-reads.Asked, own-message-reads.Learnt)
 
 module _ (t : ℕ) where
-  abbrev Cut : Type 0
-  Cut = visit-lts.Then1 (around t) (visit-at t) visit.Post
-
-  abbrev Uncut : Type 0
-  Uncut = visit-lts.Else1 (around t) (visit-at t) visit.Post
+  abbrev Begun : Type 0
+  Begun = visit-lts.After-shared-slice-known2 (around t) (visit-at t) visit.Post
 
   -- where the ways through the left child meet, and through the right child
   abbrev MetLeft : Type 0
-  MetLeft = visit-lts.Joined2 (around t) (visit-at t) visit.Post
+  MetLeft = visit-lts.Joined1 (around t) (visit-at t) visit.Post
 
   abbrev MetRight : Type 0
   MetRight = visit-lts.Joined3 (around t) (visit-at t) visit.Post
 
-  -- the walk stops where the plan cuts, and goes on where it does not
-  is-cut : (c : Cut) → let a = c .before .before .before .before .args in isCut (a .plan .now) (a .node) ≡ true
-  is-cut c = let a = c .before .before .before .before .args in eq-eqb (getD (a .plan .now) (a .node) 0) 1 (c .if1 .taken)
-
-  not-cut : (c : Uncut) → let a = c .before .before .before .before .args in isCut (a .plan .now) (a .node) ≡ false
-  not-cut c = let a = c .before .before .before .before .args in ne-eqb (getD (a .plan .now) (a .node) 0) 1 (c .if1 .left)
-
   -- an uncut node is no leaf
-  above : (c : Uncut) → c .before .before .before .before .args .stage ≡ 0 → ⊥
+  above : (c : Begun) → c .before .before .args .stage ≡ 0 → ⊥
   above c =
-      let start = c .before .before .before .before in
+      let start = c .before .before in
       let a = start .args in
-      not-leaf (a .plan .now) (a .stage) (a .node) (part (a .mask .now) (a .from) (2 ^ a .stage)) (start .pre .1 .cuts) (not-cut c)
+      not-leaf (a .plan .now) (a .stage) (a .node) (part (a .mask .now) (a .from) (2 ^ a .stage)) (start .pre .1 .0 .cuts) (start .pre .1 .1)
 
   -- its numbers
-  numbers : (c : Uncut) → let a = c .before .before .before .before .args in Numbers (a .len) (length (a .plan .now)) (a .stage) (a .size) (a .node) (a .size / 2) (a .stage - 1)
-  numbers c = let room = c .before .before .before .before .pre .1 in numbers-of _ _ _ _ _ (room .size) (room .planned) (above c)
+  numbers : (c : Begun) → let a = c .before .before .args in Numbers (a .len) (length (a .plan .now)) (a .stage) (a .size) (a .node) (a .size / 2) (a .stage - 1)
+  numbers c = let room = c .before .before .pre .1 .0 in numbers-of _ _ _ _ _ (room .size) (room .planned) (above c)
 
   -- what its steps ask
-  running : (c : Uncut) → let a = c .before .before .before .before .args in
+  running : (c : Begun) → let a = c .before .before .args in
       Run (a .plan .now) (a .mask .now) (a .len) (a .stage) (a .node) (a .from) (a .list) (a .first) (a .work .now) (a .size / 2) (a .stage - 1) (a .list + a .size)
-  running c = run (above c) (c .before .before .before .before .pre .1) (not-cut c)
-
-  -- ---- a cut node
-  visit-cut-kind-requires : visit-lts.Need-cut-kind-requires (around t) (visit-at t) visit.Post
-  visit-cut-kind-requires c κs =
-      let start = c .before .before .before .before .before in
-      let a = start .args in
-      let room = start .pre .1 in
-      subst (λ (o : Option Kind). T (isSome o)) (sym (kind-part (a .mask .now) (a .from) (a .size) (room .masked) ∙ kind-stage (a .mask .now) (a .from) (a .size) (a .stage) (room .size)))
-      (wellCut-cut (a .plan .now) (a .stage) (a .node) (part (a .mask .now) (a .from) (2 ^ a .stage)) (is-cut (c .before)) (room .cuts))
-
-  visit-cut-message-requires : visit-lts.Need-cut-message-requires (around t) (visit-at t) visit.Post
-  visit-cut-message-requires c κs =
-      let start = c .before .before .before .before .before .before .before in
-      let a = start .args in
-      let room = start .pre .1 in (
-        (omega arith, omega arith),
-        (
-          subst (λ (o : Option Kind). Sized (leastOf o) (a .size)) (sym (c .before .cut-kind .ensures ∙ kind-part (a .mask .now) (a .from) (a .size) (room .masked))) (kind-sized (a .size) (a .stage) _ (room .size)),
-          λ q. incoming room (ap (λ (x : Bool). x && isRate01 (kindOf (2 ^ a .stage) (part (a .mask .now) (a .from) (2 ^ a .stage)))) (is-cut (c .before .before .before)) ∙ sym (ap isRate01 (c .before .cut-kind .ensures ∙ kind-part (a .mask .now) (a .from) (a .size) (room .masked) ∙ kind-stage (a .mask .now) (a .from) (a .size) (a .stage) (room .size))) ∙ q),
-        ),
-      )
-
-  visit-returns : visit-lts.Need-returns (around t) (visit-at t) visit.Post
-  visit-returns c =
-      let start = c .before .before .before .before .before .before .before .before .before in
-      let a = start .args in
-      let room = start .pre .1 in
-      visited-cut (a .plan .now) (a .mask .now) (a .len) (a .stage) (a .size) (a .node) (a .from) (a .list) (a .first) (a .work .now) (c .before .cut-message .last .0) room (is-cut (c .before .before .before .before .before))
-      (c .before .cut-message .ensures ∙ ap (λ (o : Option Kind). cutWords o (a .work .now) (a .stage * a .len + a .from) (a .list) (a .size)) (c .before .before .before .cut-kind .ensures ∙ kind-part (a .mask .now) (a .from) (a .size) (room .masked) ∙ kind-stage (a .mask .now) (a .from) (a .size) (a .stage) (room .size)))
+  running c = run (above c) (c .before .before .pre .1 .0) (c .before .before .pre .1 .1)
 
   -- ---- the left child
+  left-room : (c : visit-lts.After-left-list (around t) (visit-at t) visit.Post) → let a = c .before .before .before .before .before .before .before .args in
+      Room (a .plan .now) (a .mask .now) (a .len) (a .stage - 1) (a .size / 2) (2 * a .node) (a .from) (a .list + a .size) (a .first) (c .left-list .last .0)
+  left-room c =
+      let known = c .before .before .before .before in
+      running (known .before) .left-room (known .fixed-message .ensures)
+      (a-list _ _ _ _ (sym (c .before .before .before .is-fixed .ensures) ∙ c .before .before .if1 .left) (c .left-list .ensures))
+
+  visit-cut-node-requires : visit-lts.Need-cut-node-requires (around t) (visit-at t) visit.Post
+  visit-cut-node-requires c κs = cut-asked (left-room (c .before .before .before .before)) (eq-eqb _ 1 (c .before .if2 .taken))
+
   visit-visit-requires : visit-lts.Need-visit-requires (around t) (visit-at t) visit.Post
   visit-visit-requires c κs =
-      let known = c .before .before .before .before .before .before in
-      let start = known .before .before .before .before .before in
+      let known = c .before .before .before .before .before .before .before .before in
+      let start = known .before .before .before in
       let g = numbers (known .before) in
-      let listed = c .before .before .left-list in
-      let kept = listed .kept .0 in (
-        omega arith,
-        running (known .before) .left-room (known .fixed-message .ensures)
-            (a-list _ _ _ _ (sym (c .before .before .before .before .before .is-fixed .ensures) ∙ c .before .before .before .before .if2 .left) (listed .ensures)),
-      )
+      (omega arith, (left-room (c .before .before .before .before), ne-eqb _ 1 (c .before .if2 .left)))
 
   left-done : (c : MetLeft) →
       let known = c .before .before .fixed-message .result in
-      let a = c .before .before .before .before .before .before .before .args in
-      LeftDone (a .plan .now) (a .mask .now) (a .len) (a .node) (a .from) (a .list) (a .size / 2) (a .stage - 1) (a .list + a .size) (a .first) (known .certain || known .zero) (a .work .now) (c .if2 .work)
+      let a = c .before .before .before .before .before .args in
+      LeftDone (a .plan .now) (a .mask .now) (a .len) (a .node) (a .from) (a .list) (a .size / 2) (a .stage - 1) (a .list + a .size) (a .first) (known .certain || known .zero) (a .work .now) (c .if1 .work)
   left-done c =
       let known = c .before .before .fixed-message in
       let el = c .before .before .before in
-      let a = el .before .before .before .before .args in
+      let a = el .before .before .args in
       let skips = sym (c .before .is-fixed .ensures) in
       let after : List ℤ → List ℤ → Type 0 = Visited (a .plan .now) (a .mask .now) (a .len) (a .stage - 1) (2 * a .node) (a .from) (a .list + a .size) (a .first) in
       ⊎-elim
@@ -151,94 +110,118 @@ module _ (t : ℕ) where
         visited = subst (after (a .work .now)) (sym (m .4)) (visited-fixed (running el .left-room (known .ensures) none) (known .result .certain) (known .result .zero) (known .ensures) (skips ∙ m .0 .taken) (m .2 .ensures));
         long = ap length (m .4) ∙ m .2 .kept .0;
       })
+      (⊎-elim
+      (λ m.
+      let made = a-list _ _ _ _ (skips ∙ m .0 .left) (m .2 .ensures) in
+      record {
+        list = m .2 .last .0;
+        stored = made;
+        visited = subst (after (m .2 .last .0)) (sym (m .9)) (cut-visited (running el .left-room (known .ensures) made) (eq-eqb _ 1 (m .5 .taken)) _ (m .7 .ensures));
+        long = ap length (m .9) ∙ m .7 .kept .0 ∙ m .2 .kept .0;
+      })
       (λ m. record {
         list = m .2 .last .0;
         stored = a-list _ _ _ _ (skips ∙ m .0 .left) (m .2 .ensures);
-        visited = subst (after (m .2 .last .0)) (sym (m .7)) (m .5 .ensures);
-        long = ap length (m .7) ∙ m .5 .kept .0 ∙ m .2 .kept .0;
-      })
-      (c .if2 .came)
+        visited = subst (after (m .2 .last .0)) (sym (m .9)) (m .7 .ensures);
+        long = ap length (m .9) ∙ m .7 .kept .0 ∙ m .2 .kept .0;
+      }))
+      (c .if1 .came)
 
   after-left : (c : MetLeft) →
-      let a = c .before .before .before .before .before .before .before .args in
-      AfterLeft (a .plan .now) (a .mask .now) (a .len) (a .stage) (a .node) (a .from) (a .list) (a .first) (a .work .now) (a .size / 2) (a .stage - 1) (a .list + a .size) (c .before .before .fixed-message .result .certain) (c .if2 .work)
+      let a = c .before .before .before .before .before .args in
+      AfterLeft (a .plan .now) (a .mask .now) (a .len) (a .stage) (a .node) (a .from) (a .list) (a .first) (a .work .now) (a .size / 2) (a .stage - 1) (a .list + a .size) (c .before .before .fixed-message .result .certain) (c .if1 .work)
   after-left c = running (c .before .before .before) .after-left (c .before .before .fixed-message .ensures) (left-done c)
 
   -- ---- the right child
+  -- its message's place, as the code reckons it
+  place : (c : MetLeft) → let a = c .before .before .before .before .before .args in (a .stage - 1) * a .len + a .from + a .size / 2 ≡ (a .stage - 1) * a .len + (a .from + a .size / 2)
+  place c = omega arith
+
+  right-room : (c : visit-lts.After-right-list (around t) (visit-at t) visit.Post) → let a = c .before .before .before .before .before .before .before .before .before .before .args in
+      Room (a .plan .now) (a .mask .now) (a .len) (a .stage - 1) (a .size / 2) (2 * a .node + 1) (a .from + a .size / 2) (a .list + a .size) (a .first) (c .right-list .last .0)
+  right-room c =
+      let known = c .before .before .before .before in
+      after-left (known .before) .right-room (known .fixed-message2 .ensures)
+      (a-list _ _ _ _ (sym (c .before .before .before .is-fixed2 .ensures) ∙ c .before .before .if3 .left) (c .right-list .ensures))
+
+  visit-cut-node-requires-2 : visit-lts.Need-cut-node-requires-2 (around t) (visit-at t) visit.Post
+  visit-cut-node-requires-2 c κs =
+      let listed = c .before .before .before .before in
+      let met = listed .before .before .before .before .before in
+      let a = met .before .before .before .before .before .args in
+      subst (λ (m : ℕ). CutNode (a .mask .now) m (a .list + a .size) (a .from + a .size / 2) (a .size / 2) (listed .right-list .last .0)) (sym (place met)) (cut-asked (right-room listed) (eq-eqb _ 1 (c .before .if4 .taken)))
+
   visit-visit-requires-2 : visit-lts.Need-visit-requires-2 (around t) (visit-at t) visit.Post
   visit-visit-requires-2 c κs =
-      let known = c .before .before .before .before .before .before in
+      let known = c .before .before .before .before .before .before .before .before in
       let met = known .before in
-      let start = met .before .before .before .before .before .before .before in
+      let start = met .before .before .before .before .before in
       let g = numbers (met .before .before .before) in
-      let kept = left-done met .long in
-      let listed = c .before .before .right-list in
-      let kept₂ = listed .kept .0 in (
-        omega arith,
-        after-left met .right-room (known .fixed-message2 .ensures)
-            (a-list _ _ _ _ (sym (c .before .before .before .before .before .is-fixed2 .ensures) ∙ c .before .before .before .before .if3 .left) (listed .ensures)),
-      )
+      (omega arith, (right-room (c .before .before .before .before), ne-eqb _ 1 (c .before .if4 .left)))
 
   right-done : (c : MetRight) →
       let known = c .before .before .fixed-message2 .result in
       let met = c .before .before .before in
-      let a = met .before .before .before .before .before .before .before .args in
-      RightDone (a .plan .now) (a .mask .now) (a .len) (a .node) (a .from) (a .list) (a .size / 2) (a .stage - 1) (a .list + a .size) (a .first) (known .certain || known .zero) (met .if2 .work) (c .if3 .work)
+      let a = met .before .before .before .before .before .args in
+      RightDone (a .plan .now) (a .mask .now) (a .len) (a .node) (a .from) (a .list) (a .size / 2) (a .stage - 1) (a .list + a .size) (a .first) (known .certain || known .zero) (met .if1 .work) (c .if3 .work)
   right-done c =
       let known = c .before .before .fixed-message2 in
       let met = c .before .before .before in
-      let a = met .before .before .before .before .before .before .before .args in
+      let a = met .before .before .before .before .before .args in
       let skips = sym (c .before .is-fixed2 .ensures) in
       let after : List ℤ → List ℤ → Type 0 = Visited (a .plan .now) (a .mask .now) (a .len) (a .stage - 1) (2 * a .node + 1) (a .from + a .size / 2) (a .list + a .size) (a .first) in
       ⊎-elim
       (λ m.
-      let none = no-list (known .result .certain || known .result .zero) (met .if2 .work) _ (skips ∙ m .0 .taken) in
-      let place : (a .stage - 1) * a .len + a .from + a .size / 2 ≡ (a .stage - 1) * a .len + (a .from + a .size / 2) = omega arith in
+      let none = no-list (known .result .certain || known .result .zero) (met .if1 .work) _ (skips ∙ m .0 .taken) in
       record {
-        list = met .if2 .work;
+        list = met .if1 .work;
         stored = none;
-        visited = subst (after (met .if2 .work)) (sym (m .4))
+        visited = subst (after (met .if1 .work)) (sym (m .4))
             (visited-fixed (after-left met .right-room (known .ensures) none) (known .result .certain) (known .result .zero) (known .ensures) (skips ∙ m .0 .taken)
-            (m .2 .ensures ∙ ap (λ (i : ℕ). write (met .if2 .work) i (a .size / 2) (λ k. cond (known .result .certain) (pos mark) (pos 0))) place));
+            (m .2 .ensures ∙ ap (λ (i : ℕ). write (met .if1 .work) i (a .size / 2) (λ k. cond (known .result .certain) (pos mark) (pos 0))) (place met)));
         long = ap length (m .4) ∙ m .2 .kept .0;
+      })
+      (⊎-elim
+      (λ m.
+      let made = a-list _ _ _ _ (skips ∙ m .0 .left) (m .2 .ensures) in
+      record {
+        list = m .2 .last .0;
+        stored = made;
+        visited = subst (after (m .2 .last .0)) (sym (m .9))
+            (cut-visited (after-left met .right-room (known .ensures) made) (eq-eqb _ 1 (m .5 .taken)) _
+            (m .7 .ensures ∙ ap (λ (i : ℕ). cutWords (kindOf (a .size / 2) (part (a .mask .now) (a .from + a .size / 2) (a .size / 2))) (m .2 .last .0) i (a .list + a .size) (a .size / 2)) (place met)));
+        long = ap length (m .9) ∙ m .7 .kept .0 ∙ m .2 .kept .0;
       })
       (λ m. record {
         list = m .2 .last .0;
         stored = a-list _ _ _ _ (skips ∙ m .0 .left) (m .2 .ensures);
-        visited = subst (after (m .2 .last .0)) (sym (m .7)) (m .5 .ensures);
-        long = ap length (m .7) ∙ m .5 .kept .0 ∙ m .2 .kept .0;
-      })
+        visited = subst (after (m .2 .last .0)) (sym (m .9)) (m .7 .ensures);
+        long = ap length (m .9) ∙ m .7 .kept .0 ∙ m .2 .kept .0;
+      }))
       (c .if3 .came)
 
   after-right : (c : MetRight) →
       let met = c .before .before .before in
-      let a = met .before .before .before .before .before .before .before .args in
+      let a = met .before .before .before .before .before .args in
       let known = c .before .before .fixed-message2 .result in
       AfterRight (a .plan .now) (a .mask .now) (a .len) (a .stage) (a .node) (a .from) (a .list) (a .first) (a .work .now) (a .size / 2) (a .stage - 1) (a .list + a .size) (met .before .before .fixed-message .result .certain) (known .certain) (known .zero) (c .if3 .work)
   after-right c = after-left (c .before .before .before) .after-right (c .before .before .fixed-message2 .ensures) (right-done c)
 
-  kept-right : (c : MetRight) → length (c .if3 .work) ≡ length (c .before .before .before .before .before .before .before .before .before .before .args .work .now)
+  kept-right : (c : MetRight) → length (c .if3 .work) ≡ length (c .before .before .before .before .before .before .before .before .args .work .now)
   kept-right c = right-done c .long ∙ left-done (c .before .before .before) .long
 
   -- ---- the node's message
   visit-own-message-requires : visit-lts.Need-own-message-requires (around t) (visit-at t) visit.Post
   visit-own-message-requires c κs =
       let el = c .before .before .before .before .before .before .before in
-      let start = el .before .before .before .before in
+      let start = el .before .before in
       let g = numbers el in
       let kept = kept-right (c .before) in
       ((record { children = omega arith; message = omega arith; list = omega arith }, omega arith), after-right (c .before) .message-asked)
 
 pub +visit-spec : {M : Type 1} → statement M
 +visit-spec = close μ-visit λ t. visit-lts.spec (around t) (visit-at t) visit.Post
-    (λ c. omega arith) (λ c. omega arith)  -- m
-    (λ c. let start = c .before .before .before in inside (start .args .size) (start .args .stage) _ _ (start .pre .1 .size) (start .pre .1 .planned))  -- plan[node]
-    (λ c. omega arith)  -- end
-    (λ c. omega arith) (λ c. omega arith) (λ c. omega arith)  -- mask[from..end]
-    (visit-cut-kind-requires t)
-    (visit-cut-message-requires t)
-    (λ c. c .before .cut-message .kept .0)
-    (visit-returns t)
+    (λ c. let room = c .before .before .pre .1 .0 in omega arith) (λ c. let room = c .before .before .pre .1 .0 in omega arith)  -- m
     (λ c. let g = numbers t c in omega arith)  -- below
     (λ c. let g = numbers t c in omega arith) (λ c. let g = numbers t c in omega arith)  -- l
     (λ c. let g = numbers t c in omega arith)  -- r
@@ -247,15 +230,20 @@ pub +visit-spec : {M : Type 1} → statement M
     (λ c. let g = numbers t c in omega arith)  -- middle
     (λ c κs. let g = numbers t c in ((omega arith, omega arith), running t c .kind-left))
     (λ c κs. tt)
-    (λ c κs. let el = c .before .before .before .before in let start = el .before .before .before .before in let g = numbers t el in omega arith)  -- fixed_child, left_list
-    (λ c κs. let el = c .before .before .before .before in let start = el .before .before .before .before in let g = numbers t el in ((omega arith, omega arith, omega arith), running t el .list-asked))
+    (λ c κs. let el = c .before .before .before .before in let start = el .before .before in let g = numbers t el in omega arith)  -- fixed_child, left_list
+    (λ c κs. let el = c .before .before .before .before in let start = el .before .before in let g = numbers t el in ((omega arith, omega arith, omega arith), running t el .list-asked))
+    (λ c. let el = c .before .before .before .before .before .before .before in let start = el .before .before in let g = numbers t el in omega arith)  -- plan[child]
+    (visit-cut-node-requires t)
     (visit-visit-requires t)
-    (λ c. let el = c .before .before .before in let start = el .before .before .before .before in let g = numbers t el in omega arith)  -- child + 1
-    (λ c κs. let el = c .before .before .before in let start = el .before .before .before .before in let g = numbers t el in ((omega arith, omega arith), running t el .kind-right))
+    (λ c. let el = c .before .before .before in let start = el .before .before in let g = numbers t el in omega arith)  -- child + 1
+    (λ c κs. let el = c .before .before .before in let start = el .before .before in let g = numbers t el in ((omega arith, omega arith), running t el .kind-right))
     (λ c κs. tt)
-    (λ c κs. let met = c .before .before .before .before in let start = met .before .before .before .before .before .before .before in let g = numbers t (met .before .before .before) in let kept = left-done t met .long in omega arith)  -- fixed_child, right_list
-    (λ c κs. let met = c .before .before .before .before in let start = met .before .before .before .before .before .before .before in let g = numbers t (met .before .before .before) in let kept = left-done t met .long in ((omega arith, omega arith, omega arith), after-left t met .list-asked))
-    (λ c. let met = c .before .before .before .before .before .before .before in let start = met .before .before .before .before .before .before .before in let g = numbers t (met .before .before .before) in omega arith)  -- child + 1
+    (λ c κs. let met = c .before .before .before .before in let start = met .before .before .before .before .before in let g = numbers t (met .before .before .before) in let kept = left-done t met .long in omega arith)  -- fixed_child, right_list
+    (λ c κs. let met = c .before .before .before .before in let start = met .before .before .before .before .before in let g = numbers t (met .before .before .before) in let kept = left-done t met .long in ((omega arith, omega arith, omega arith), after-left t met .list-asked))
+    (λ c. let met = c .before .before .before .before .before .before in let start = met .before .before .before .before .before in let g = numbers t (met .before .before .before) in omega arith)  -- child + 1
+    (λ c. let met = c .before .before .before .before .before .before .before in let start = met .before .before .before .before .before in let g = numbers t (met .before .before .before) in omega arith)  -- plan[child + 1]
+    (visit-cut-node-requires-2 t)
+    (λ c. let met = c .before .before .before .before .before .before .before .before .before in let start = met .before .before .before .before .before in let g = numbers t (met .before .before .before) in omega arith)  -- child + 1
     (visit-visit-requires-2 t)
     (visit-own-message-requires t)
     (λ c. c .before .own-message .kept .0 ∙ kept-right t (c .before .before .before))
