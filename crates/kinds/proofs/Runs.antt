@@ -6,7 +6,7 @@ use mathlib.Core.Path.{_≡_, refl, sym, ap, ap₂, _∙_}
 use mathlib.Core.Bool.{Bool, true, false, cond, not, _&&_}
 use mathlib.Core.Option.{Option, none, some}
 use mathlib.Core.List.{List, [], _∷_, _++_, append-nil}
-use borrow.Author.Tests.{le-leb}
+use borrow.Author.Tests.{le-leb, ne-eqb}
 use lib.Dec.{T, eqb, leb}
 use lib.ListN.{replicate, length, take, drop, getD, length-drop, length-replicate, take-append-drop, drop-of-length-le, List·getD-append, getD-replicate}
 use lib.Seq.{drop-cons, length-take-le, getD-append-add}
@@ -271,6 +271,19 @@ module _ (mask : List ℕ) {o : Option Kind} {f : ℕ} (E : Ends mask o f) where
           absurd (absurd-bool (same (frozenToZero mask) (frozenToZero mask)) (same-refl (frozenToZero mask)) (ap (same (frozenToZero mask)) (kind-facts (length mask) mask (E .kind) is .1 ∙ as-run) ∙ e))
 
 -- ---- one more byte
+-- a frozen position after the first f
+broken : (mask : List ℕ) (f : ℕ) → f < length mask → (getD mask f 0 ≡ 0 → ⊥) → allAre 0 (frozenToZero (drop f mask)) ≡ false
+unfolding allAre frozenToZero
+broken mask f lt frozen = rw (drop-cons mask f 0 lt, ne-eqb (getD mask f 0) 0 frozen)
+
+and-none : (b : Bool) → (b && false) ≡ false
+and-none true = refl
+and-none false = refl
+
+pub run-broken : (mask : List ℕ) (f : ℕ) → f < length mask → (getD mask f 0 ≡ 0 → ⊥) → false ≡ same (frozenToZero mask) (onlyFirst f (length mask))
+run-broken mask f lt frozen =
+    sym (run-test mask f (omega arith) ∙ ap (λ (b : Bool). allAre 1 (frozenToZero (take f mask)) && b) (broken mask f lt frozen) ∙ and-none (allAre 1 (frozenToZero (take f mask))))
+
 pub alike-more : (byte : ℕ) (alike : Bool) (part : List ℕ) (i : ℕ) → i < length part
     → (alike && allAre byte (frozenToZero (drop i part))) ≡ ((alike && eqb (cond (isUnfrozen (getD part i 0)) 0 1) byte) && allAre byte (frozenToZero (drop (i + 1) part)))
 unfolding allAre frozenToZero

@@ -84,11 +84,17 @@ fn all_are(part: &[u8], byte: u8) -> bool
     alike
 }
 
-// Whether the first f positions are frozen and the others unfrozen.
+// Whether the first f positions are frozen and the others unfrozen. The position after the run is looked at first: in most nodes of no kind it is frozen,
+// and nothing else need be looked at.
 fn is_run(mask: &[u8], f: usize) -> bool
     requires { ⌜ f ≤ length (now mask) ⌝ }
     ensures { λ r. ⌜ r ≡ same (frozenToZero (now (mask .entry))) (onlyFirst f (length (now (mask .entry)))) ⌝ }
 {
+    if f < mask.len() {
+        if mask[f] != UNFROZEN {
+            return false;
+        }
+    }
     if all_are(&mask[..f], 1) {
         all_are(&mask[f..], 0)
     } else {

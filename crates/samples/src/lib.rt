@@ -3,7 +3,7 @@ ghost use mathlib.Core.Path.{_≡_};
 ghost use mathlib.Core.Bool.{_&&_, cond};
 ghost use Prim.Native.Nat.{_+_, _<_, _≤_};
 ghost use lib.Dec.{leb};
-ghost use lib.ListN.{length};
+ghost use lib.ListN.{length, replicate};
 ghost use Rattle.model.specs.Lists.{over};
 ghost use Rattle.model.specs.Samples.{toLlr, llrOf, llrsOf, positionOf, isFinite, isVariance, isReadable, allReadable};
 ghost use Rattle.model.specs.Refusals.{samplesNumber, samplesLlrs};
@@ -165,7 +165,7 @@ fn all_readable(marks: &[u8], samples: &[f32]) -> bool
 }
 
 // One LLR for each position, into the front of llrs.
-fn fill(samples: &[f32], marks: &[u8], channel: Channel, llrs: &mut [i16])
+fn fill_by_marks(samples: &[f32], marks: &[u8], channel: Channel, llrs: &mut [i16])
     requires { ⌜ (length (now marks) ≡ length (now samples)) × (length (now samples) ≤ length (now llrs)) ⌝ }
     ensures { λ _. ⌜ now (llrs .exit) ≡ over (llrsOf (channel .variance) (now (marks .entry)) (now (samples .entry))) (now (llrs .entry)) ⌝ }
 {
@@ -173,6 +173,30 @@ fn fill(samples: &[f32], marks: &[u8], channel: Channel, llrs: &mut [i16])
     while i < samples.len() {
         llrs[i] = llr_of(position_of(marks[i], samples[i]), channel);
         i += 1;
+    }
+}
+
+// The same where every position was sent.
+fn fill_sent(samples: &[f32], channel: Channel, llrs: &mut [i16])
+    requires { ⌜ length (now samples) ≤ length (now llrs) ⌝ }
+    ensures { λ _. ⌜ now (llrs .exit) ≡ over (llrsOf (channel .variance) (replicate (length (now (samples .entry))) 0) (now (samples .entry))) (now (llrs .entry)) ⌝ }
+{
+    let mut i = 0;
+    while i < samples.len() {
+        llrs[i] = llr_of(Position::Sent(samples[i]), channel);
+        i += 1;
+    }
+}
+
+// The same for any marks. Where all positions were sent, which is known before the loop, the loop need not select.
+fn fill(samples: &[f32], marks: &[u8], channel: Channel, llrs: &mut [i16])
+    requires { ⌜ (length (now marks) ≡ length (now samples)) × (length (now samples) ≤ length (now llrs)) ⌝ }
+    ensures { λ _. ⌜ now (llrs .exit) ≡ over (llrsOf (channel .variance) (now (marks .entry)) (now (samples .entry))) (now (llrs .entry)) ⌝ }
+{
+    if inputs::at_most(marks, 0) {
+        fill_sent(samples, channel, llrs);
+    } else {
+        fill_by_marks(samples, marks, channel, llrs);
     }
 }
 
