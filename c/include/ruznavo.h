@@ -37,7 +37,9 @@
  * the finite soft values, the same certain ones, and the same hard bits, payload, frozen check and cycles. But
  * ruznavo_samples rounds to whole numbers, and on a larger scale that loses less: v / 16 handed in the place of the
  * noise variance v makes what is rounded 16 times as large, which keeps four more bits of each LLR. On every scale LLRs
- * are clamped to +-32767, and a shortened position gives 32767. docs/CURVES.md shows what rounding costs.
+ * are clamped to +-32767, and a shortened position gives 32767: keep the largest |LLR| well below that. Block errors of
+ * 20000 frames at v, v / 4, v / 16, v / 256 and without rounding, for (1024, 64) at 2 dB and 1 sweep: 5533, 3195, 3059,
+ * 3047, 3047 (docs/CURVES.md, which has other codes and says how to choose).
  *
  * Floating point. ruznavo_samples alone computes with floating-point numbers. It needs the processor's default
  * settings (MXCSR): rounding to nearest, subnormal numbers kept as they are (neither flush-to-zero nor
@@ -150,8 +152,9 @@ static inline uint32_t ruznavo_cycles(uint64_t answer) { return (uint32_t)(answe
 
 /*
  * The frozen check of a decode: 1 exactly if the decoded frozen bits are all 0, that is, if the hard word is a word of
- * the code. It is no error detection: a wrong payload can have check 1, and a right one check 0. A host that must know
- * puts a CRC into the payload.
+ * the code. It is no error detection: a wrong payload can have check 1, and a right one check 0. At 8 sweeps, 57 of 200
+ * wrong blocks had check 1 for (1024, 512), mask by polarization weight, at 2.5 dB, and 186 of 215 for (1024, 896), mask
+ * by erasure rates, at 5.5 dB (docs/CURVES.md). A host that must know puts a CRC into the payload.
  */
 static inline unsigned ruznavo_check(uint64_t answer) { return (unsigned)(answer >> 40); }
 
