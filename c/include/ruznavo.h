@@ -50,7 +50,7 @@
  * accepted. A refused call answers its number with every other result 0 and leaves every buffer as it was, the
  * workspace too. If several causes apply, the lowest number of those that the call tests is answered.
  *
- * Stack. At N = 1024 the decoder used less than 7 KB, planner and plan check less than 2 KB each, the others less than
+ * Stack. At N = 1024 the decoder used less than 5 KB, planner and plan check less than 2 KB each, the others less than
  * 200 bytes. `make -C c` measures this (c/test/stack.c), and fails where a call uses more.
  */
 #ifndef RUZNAVO_H

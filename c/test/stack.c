@@ -65,6 +65,6 @@ int main(void) {
     int failed = measure("samples", call_samples, 200) + measure("encode", call_encode, 200) +
                  measure("transform", call_transform, 200) + measure("plan", call_plan, 2000);
     leaf_plan(plan, N);
-    failed += measure("check_plan", call_check_plan, 2000) + measure("decode", call_decode, 7000);
+    failed += measure("check_plan", call_check_plan, 2000) + measure("decode", call_decode, 5000);
     return failed != 0;
 }
