@@ -32,7 +32,7 @@ static const library libraries[LIBRARIES] = {
     {"SSE2 C", sse2_decode, NULL, NULL, NULL, NULL},
 };
 
-typedef enum { DECODE, ENCODE, PLAN, SAMPLES, TRANSFORM, CHAIN } routine;
+typedef enum { DECODE, ENCODE, PLAN, SAMPLES, MARKED, TRANSFORM, CHAIN } routine;
 
 // The planner's plan; one near the leaves, which cuts every node of 2 positions that is of a kind; and the one that cuts
 // the leaves.
@@ -84,11 +84,19 @@ static void make_plan(const test_case *c) {
     if (c->plan == PAIRS) cut_pairs(c->n);
 }
 
+// All positions sent; in the front end's rows with marks every eighth is punctured, and the last sixteenth shortened.
+static uint8_t mark_at(const test_case *c, size_t i) {
+    if (c->what != MARKED) return RUZNAVO_SENT;
+    if (i >= c->n - c->n / 16) return RUZNAVO_SHORTENED;
+    return i % 8 == 0 ? RUZNAVO_PUNCTURED : RUZNAVO_SENT;
+}
+
 // The same frames for each case of a code: random payloads at an Eb/N0 of 2 dB.
 static void prepare(const test_case *c) {
     struct random r = random_case(1, 0);
     make_mask(mask, c->n, c->k);
     make_plan(c);
+    for (size_t i = 0; i < c->n; i++) marks[i] = mark_at(c, i);
     variance = (float)noise_variance(c->n, c->k, 2);
     for (int f = 0; f < FRAMES; f++) {
         for (size_t i = 0; i < c->k; i++) payloads[f][i] = random_bits(&r) >> 63;
@@ -112,7 +120,8 @@ static void call(const test_case *c, int which, int f) {
     case ENCODE: o->answer = lib->encode(mask, n, payloads[f], c->k, o->word, n); break;
     case TRANSFORM: o->answer = lib->transform(o->word, n); break;
     case PLAN: o->answer = lib->plan(mask, n, o->plan, 2 * n, o->counts); break;
-    case SAMPLES: o->answer = lib->samples(samples[f], n, marks, n, variance, o->llrs, n); break;
+    case SAMPLES:
+    case MARKED: o->answer = lib->samples(samples[f], n, marks, n, variance, o->llrs, n); break;
     case CHAIN:
         lib->samples(samples[f], n, marks, n, variance, o->llrs, n);
         o->answer = lib->decode(mask, n, plan, 2 * n, c->sweeps, o->llrs, n, o->soft, n, o->hard, n, o->payload, c->k,
@@ -220,10 +229,10 @@ static void decode_table(void) {
 }
 
 static void other_table(void) {
-    static const char *const names[] = {"", "encoder", "planner", "front end"};
+    static const char *const names[] = {"", "encoder", "planner", "front end", "with marks"};
     heading("Encoder, planner and front end", "routine    code");
     if (!counting) puts("   proved/plain");
-    for (int i = 0; i < 3 * CODES; i++) {
+    for (int i = 0; i < 4 * CODES; i++) {
         test_case c = {(routine)(ENCODE + i / CODES), codes[i % CODES][0], codes[i % CODES][1], 0, PLANNERS};
         double mean[LIBRARIES];
         if (!counting) printf("%-10s (%4zu,%3zu)%5s", names[c.what], c.n, c.k, "");

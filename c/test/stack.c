@@ -62,7 +62,9 @@ int main(void) {
         mask[i] = (uint8_t)(i % 2 == 0 ? i / 2 % 2 : 1 - i / 2 % 2);
         samples[i] = (float)random_gauss(&r);
     }
-    int failed = measure("samples", call_samples, 200) + measure("encode", call_encode, 200) +
+    int failed = measure("samples", call_samples, 200);
+    marks[0] = RUZNAVO_PUNCTURED;
+    failed += measure("samples, one not sent", call_samples, 200) + measure("encode", call_encode, 200) +
                  measure("transform", call_transform, 200) + measure("plan", call_plan, 2000);
     leaf_plan(plan, N);
     failed += measure("check_plan", call_check_plan, 2000) + measure("decode", call_decode, 5000);

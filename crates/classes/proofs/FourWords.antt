@@ -2,15 +2,15 @@
 use mathlib.Core.Path.{_≡_, refl, sym, ap, ap₂, _∙_, subst}
 use mathlib.Core.Bool.{Bool, true, false, cond}
 use mathlib.Core.List.{[], _∷_}
-use Prim.Native.Nat.{ℕ, zero, suc, _^_, _<_, min, max}
+use Prim.Native.Nat.{ℕ, _^_, _<_, min, max}
 use native.Mathlib.Nat.{min-comm}
 use native.Mathlib.Omega.{arith}
-use lib.IntN.{ℤ, pos, negsuc, natAbs, _-ℤ_}
+use lib.IntN.{ℤ, pos, negsuc, natAbs}
 use lib.Signed.{ltZ, mag, nonNeg}
 use lib.Dec.{T, ltb}
 use mir.Syntax.{w32}
-use mir.Val.{SFits, Fits}
-use borrow.Author.Tests.{ltb-true, ltb-false, le-ltb}
+use mir.Val.{Fits}
+use borrow.Author.Tests.{ltb-true, ltb-false}
 use Rattle.model.specs.Soft.{mark, negative, differ}
 use Rattle.model.proofs.Algebra.{differ-assoc}
 use Rattle.words.specs.Words.{Word, flip}

@@ -12,7 +12,7 @@ use lib.Signed.{mag}
 use mir.Val.{toZ, ofZ}
 use mir.Syntax.{w32}
 use Rattle.words.specs.Words.{Word, word, write, boxWord, addWord, Added, Finite}
-use Rattle.halves.specs.Halves.{Apart, Held, Sources, boxAt, boxPlus, plusBox, plusFront, leftAt, rightAt, LeftPlace, RightPlace, LeftAt, RightAt}
+use Rattle.halves.specs.Halves.{Apart, Inside, Sources, boxAt, boxPlus, plusBox, plusFront, leftAt, rightAt, LeftPlace, RightPlace, LeftAt, RightAt}
 use Rattle.words.proofs.Signed.{back}
 use Rattle.words.proofs.Loops.{Stored}
 use Rattle.words.proofs.Store.{store-none, store-next, length-write, write-in, write-below, write-ext, write-over, write-mid, getD-mid, source-above, source-below}
@@ -39,7 +39,7 @@ part-long : (w : List ℤ) (e i : ℕ) → e + i < length w → i < length (from
 part-long w e i lt = omega (arith, length-take-le (length w - e) (drop e w) (omega (arith, length-drop e w)))
 
 -- place i of three sources, one of them a part of its own: what is asked there, and what is found
-module _ {w : List ℤ} {d a b c h : ℕ} (src : Held w d a b c h) (i : ℕ) (lt : i < h) where
+module _ {w : List ℤ} {d a b c h : ℕ} (src : Inside w d a b c h) (i : ℕ) (lt : i < h) where
   pub left-asked : LeftPlace w a b c i → LeftAt w (from b w) a c i
   left-asked place = record {
     there = (omega (arith, src .fit), omega (arith, src .fit), part-long w b i (omega (arith, src .fit)));
@@ -63,7 +63,7 @@ module _ {w : List ℤ} {d a b c h : ℕ} (src : Held w d a b c h) (i : ℕ) (lt
 
 -- place i of three sources, while a loop stores elsewhere: what a place requires, and what it holds, is as at the start
 module _ {w₀ w : List ℤ} {d a b c h k : ℕ} {f : ℕ → ℤ} (src : Sources w₀ d a b c h) (s : Stored w₀ d h f k w) where
-  pub held : (m : ℕ) → m ≤ h → Held w d a b c m
+  pub held : (m : ℕ) → m ≤ h → Inside w d a b c m
   held m le = let fit = src .held .fit in let long = s .long in record { fit = (omega arith, omega arith, omega arith, omega arith) }
 
   module _ (i : ℕ) (lt : i < h) where

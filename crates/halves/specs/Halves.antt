@@ -11,12 +11,12 @@ abbrev pub Apart : ℕ → ℕ → ℕ → Type 0
 Apart n a b = (a + n ≤ b) ⊎ (b + n ≤ a)
 
 -- there are h words from d, from a, from b and from c on
-pub record Held (w : List ℤ) (d a b c h : ℕ) : Type 0 where
+pub record Inside (w : List ℤ) (d a b c h : ℕ) : Type 0 where
   pub fit : (d + h ≤ length w) × (a + h ≤ length w) × (b + h ≤ length w) × (c + h ≤ length w)
 
 -- the h words from d on are stored, and the h words from a, from b and from c on are read, none of which is stored
 pub record Sources (w : List ℤ) (d a b c h : ℕ) : Type 0 where
-  pub held : Held w d a b c h
+  pub held : Inside w d a b c h
   pub apart : Apart h d a × Apart h d b × Apart h d c
 
 -- ---- what is stored for place k: a box, a sum, and one inside the other

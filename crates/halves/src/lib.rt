@@ -10,7 +10,7 @@ ghost use lib.IntN.{pos};
 ghost use lib.ListN.{length};
 ghost use Rattle.model.specs.Soft.{mark};
 ghost use Rattle.words.specs.Words.{word, write, Holds, Words, Finite};
-ghost use Rattle.halves.specs.Halves.{Apart, Held, Sources, boxAt, plusAt, boxPlus, plusBox, plusFront, leftAt, rightAt, FiniteSums, Sums, FiniteBoxSums, LeftPlace, RightPlace, LeftAt, RightAt};
+ghost use Rattle.halves.specs.Halves.{Apart, Inside, Sources, boxAt, plusAt, boxPlus, plusBox, plusFront, leftAt, rightAt, FiniteSums, Sums, FiniteBoxSums, LeftPlace, RightPlace, LeftAt, RightAt};
 
 // w[d + k] = box(w[a + k], w[b + k] + w[c + k])
 fn box_plus(w: &mut [i32], d: usize, a: usize, b: usize, c: usize, h: usize)
@@ -102,7 +102,7 @@ fn right_word(w: &[i32], second: &[i32], a: usize, c: usize, k: usize) -> i32
 
 // `box_plus` for the four places from k on, all read before any is stored.
 fn left_four(w: &mut [i32], d: usize, a: usize, b: usize, c: usize, k: usize)
-    requires { ⌜ Held (now w) d a b c (k + 4) ⌝ }
+    requires { ⌜ Inside (now w) d a b c (k + 4) ⌝ }
     requires { ⌜ ((i : ℕ) → k ≤ i → i < k + 4 → LeftPlace (now w) a b c i) ⌝ }
     ensures { λ _. ⌜ now (w .exit) ≡ write (now (w .entry)) (d + k) 4 (λ j. boxPlus (now (w .entry)) a b c (k + j)) ⌝ }
 {
@@ -117,7 +117,7 @@ fn left_four(w: &mut [i32], d: usize, a: usize, b: usize, c: usize, k: usize)
 
 // `plus_box` for the four places from k on, all read before any is stored.
 fn right_four(w: &mut [i32], d: usize, a: usize, b: usize, c: usize, k: usize)
-    requires { ⌜ Held (now w) d a b c (k + 4) ⌝ }
+    requires { ⌜ Inside (now w) d a b c (k + 4) ⌝ }
     requires { ⌜ ((i : ℕ) → k ≤ i → i < k + 4 → RightPlace (now w) a b c i) ⌝ }
     ensures { λ _. ⌜ now (w .exit) ≡ write (now (w .entry)) (d + k) 4 (λ j. plusBox (now (w .entry)) a b c (k + j)) ⌝ }
 {

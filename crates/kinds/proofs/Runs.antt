@@ -270,7 +270,7 @@ module _ (mask : List ℕ) {o : Option Kind} {f : ℕ} (E : Ends mask o f) where
           let is : kindOf (length mask) mask ≡ some (E .kind) = sym (E .only (rw q tt)) ∙ E .named in
           absurd (absurd-bool (same (frozenToZero mask) (frozenToZero mask)) (same-refl (frozenToZero mask)) (ap (same (frozenToZero mask)) (kind-facts (length mask) mask (E .kind) is .1 ∙ as-run) ∙ e))
 
--- ---- one more byte
+-- ---- a run that is broken, and one more byte
 -- a frozen position after the first f
 broken : (mask : List ℕ) (f : ℕ) → f < length mask → (getD mask f 0 ≡ 0 → ⊥) → allAre 0 (frozenToZero (drop f mask)) ≡ false
 unfolding allAre frozenToZero

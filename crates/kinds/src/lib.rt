@@ -84,8 +84,8 @@ fn all_are(part: &[u8], byte: u8) -> bool
     alike
 }
 
-// Whether the first f positions are frozen and the others unfrozen. The position after the run is looked at first: in most nodes of no kind it is frozen,
-// and nothing else need be looked at.
+// Whether the first f positions are frozen and the others unfrozen. The position after the run is looked at first: where the ends fit type IV and the
+// node is of no kind, it is frozen more often than not, and nothing else need be looked at.
 fn is_run(mask: &[u8], f: usize) -> bool
     requires { ⌜ f ≤ length (now mask) ⌝ }
     ensures { λ r. ⌜ r ≡ same (frozenToZero (now (mask .entry))) (onlyFirst f (length (now (mask .entry)))) ⌝ }

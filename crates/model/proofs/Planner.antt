@@ -8,7 +8,7 @@ use native.Mathlib.Nat.{one-mul}
 use native.Mathlib.Decide.{decLe}
 use native.Mathlib.Omega.{arith}
 use borrow.Author.Tests.{lt-ltb, le-ltb}
-use lib.Dec.{T, eqb, leb, leb→le}
+use lib.Dec.{T, eqb}
 use lib.ListN.{getD, take, drop, length, length-append, length-drop, List·getD-append}
 use lib.Seq.{getD-append-add, length-take-le, ext-getD}
 use lib.Pow.{pow-pos, pow-mono}

@@ -18,6 +18,7 @@ use Rattle.model.specs.Plans.{oneCut, cutsOfKinds, wellCut, Allowed, lea
 use Rattle.model.specs.Kinds.{Kind, order, fits, kindBy, ownCycles, shortcut}
 use Rattle.model.specs.Orders.{former, HasAll, countsBy, cutsWith, moved}
 use Rattle.model.specs.Scale.{scaledAll}
+use Rattle.model.specs.Refusals.{DecodeCall, exponent, decodeNumber, decodeCycles}
 use Rattle.model.specs.Bounds.{SmallAll, Under, AllUnder, InRange, limit, cap}
 use Rattle.model.proofs.Shortcuts.{sound-start}
 use Rattle.model.proofs.Paths.{wellCut-test, allowed-cuts}
@@ -171,7 +172,12 @@ module _ (c : ℕ) (above : 0 < c) where
       decodeScan n mask (scaledAll c L) k ≡ record { soft = scaledAll c (D .soft); hard = D .hard; payload = D .payload; check = D .check }
   decode-on-scale = decode-scaled c above
 
-  -- So it is along every allowed plan. Cycles do not look at LLRs.
+  -- So it is along every allowed plan.
   pub soft-on-scale : (n : ℕ) (plan mask : List ℕ) → Allowed n plan mask → (L : List Soft) (k : ℕ) → planned plan n mask (scaledAll c L) k ≡ scaledAll c (planned plan n mask L k)
   soft-on-scale n plan mask A L k =
       soft-same n plan mask A (scaledAll c L) k ∙ scan-scaled c above n mask L k ∙ ap (scaledAll c) (sym (soft-same n plan mask A L k))
+
+-- Two accepted calls that differ in their LLRs only take the same cycles.
+pub cycles-on-scale : (c d : DecodeCall) → c .mask ≡ d .mask → c .plan ≡ d .plan → c .sweeps ≡ d .sweeps → decodeNumber c ≡ 0 → decodeNumber d ≡ 0 → decodeCycles c ≡ decodeCycles d
+unfolding decodeCycles
+cycles-on-scale c d mask plan sweeps p q = rw (p, q) (λ i. sweeps i * cycles (plan i) (exponent (length (mask i))) 1 (mask i))

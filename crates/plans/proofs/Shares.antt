@@ -1,5 +1,5 @@
 -- The check's sum at a node: what it is where each path meets a cut, and what where one does not. Assumes nothing.
-use Prim.Native.Nat.{ℕ, zero, suc, _+_, _*_, _-_, _/_, _%_, _^_, _≤_, _<_}
+use Prim.Native.Nat.{ℕ, zero, suc, _+_, _*_, _-_, _/_, _^_, _≤_}
 use native.Mathlib.Omega.{arith}
 use mathlib.Core.Path.{_≡_, refl, sym, ap, ap₂, _∙_}
 use mathlib.Core.Bool.{Bool, true, false, cond, _&&_}
@@ -8,7 +8,7 @@ use mathlib.Core.List.{List}
 use borrow.Author.Tests.{eq-eqb, ne-eqb}
 use lib.Dec.{eqb}
 use lib.ListN.{length, take, drop, getD, length-drop}
-use lib.Pow.{pow-pos, pow-mono}
+use lib.Pow.{pow-pos}
 use lib.Seq.{length-take-le, take-length, take-take, take-add, drop-drop, drop-at}
 use Rattle.model.specs.Kinds.{Kind, rate-0, rate-1, REP, SPC, type-I, type-III, type-II, type-IV, kindOf, isSome}
 use Rattle.model.specs.Plans.{isCut, isRate01, cutCycles, edgeCycles, cycles, cyclesBy}
@@ -47,11 +47,11 @@ own-small (some type-III) = omega arith
 own-small (some type-II) = omega arith
 own-small (some type-IV) = omega arith
 
-pub way-small : (b : Bool) → cond b 4 6 ≤ 6
-way-small b = cond-both (λ n. n ≤ 6) b (omega arith) (omega arith)
+pub edge-share-small : (b : Bool) → cond b 4 6 ≤ 6
+edge-share-small b = cond-both (λ n. n ≤ 6) b (omega arith) (omega arith)
 
 share-small : (o : Option Kind) → share o ≤ fault
-share-small o = cond-both (λ n. n ≤ fault) (isSome o) (omega (arith, own-small o, way-small (isRate01 o))) (omega arith)
+share-small o = cond-both (λ n. n ≤ fault) (isSome o) (omega (arith, own-small o, edge-share-small (isRate01 o))) (omega arith)
 
 pub shares-small : (plan : List ℕ) (t p : ℕ) (mask : List ℕ) → shares plan t p mask ≤ fault * 2 ^ t
 unfolding shares

@@ -25,11 +25,12 @@ pub record Span (t p b s : ℕ) (mask plan : List ℕ) : Type 0 where
   pub span : b + s ≤ length mask
   pub place : Place t p (length plan)
 
--- what a node or leaf without its cut, or a cut node of no kind, adds to the check's sum
+-- what a leaf whose path has no cut, or a cut node of no kind, adds to the check's sum
 abbrev pub fault : ℕ
 fault = 4294967296
 
--- what a cut node adds: 65536 for the cut; its own cycles; and 4, or 6 where the node above it counts 2 for the edge to it
+-- what a cut node adds: 65536 for the cut; its own cycles; 2 for the edge to it, unless it is a rate-0 or rate-1 node; and 4, since m cut nodes have m - 1
+-- uncut ones above them, each with 2 cycles of its own and 2 for the edge to it
 abbrev pub share : Option Kind → ℕ
 share o = cond (isSome o) (65536 + (cutCycles o + cond (isRate01 o) 4 6)) fault
 

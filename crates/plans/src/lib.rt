@@ -23,8 +23,9 @@ const FAULT: u64 = 4294967296;
 // What a cut adds, above the cycles.
 const CUT: u64 = 65536;
 
-// The cycles that an uncut node of two children counts for a child, shared out: 4 for a cut rate-0 or rate-1 node, else 6.
-fn way_cycles(fixed: bool) -> u64
+// 4, and 2 more for the edge to a cut node that is no rate-0 or rate-1 node. The 4 stand for the uncut nodes: m cut nodes have m - 1 uncut ones above
+// them, each with 2 cycles of its own and, but for the root, 2 for the edge to it, in all 4m - 6.
+fn edge_share(fixed: bool) -> u64
     ensures { λ r. ⌜ r ≡ cond fixed 4 6 ⌝ }
 {
     if fixed { 4 } else { 6 }
@@ -36,7 +37,7 @@ fn share_of(k: Kind) -> u64
 {
     let row = table_row(k);
     if row.place < KINDS {
-        CUT + (row.cycles as u64 + way_cycles(row.fixed))
+        CUT + (row.cycles as u64 + edge_share(row.fixed))
     } else {
         FAULT
     }
@@ -74,7 +75,7 @@ fn shares_at(mask: &[u8], plan: &[u8], t: usize, p: usize, b: usize, s: usize) -
     left + right
 }
 
-// The cycles of one sweep along an allowed plan, from the sum at the root: no node counts an edge to the root.
+// The cycles of one sweep along an allowed plan, from the sum at the root, which has 6 too many. A cut rate-0 or rate-1 root has no cycles; its sum is 4.
 fn cycles_in(sum: u64) -> u32
     ensures { λ r. ⌜ r ≡ sum % 65536 - 6 ⌝ }
 {

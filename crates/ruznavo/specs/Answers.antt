@@ -2,7 +2,6 @@
 use mathlib.Core.Path.{_≡_}
 use mathlib.Core.List.{List}
 use Prim.Native.Nat.{ℕ, _+_, _*_, _^_}
-use lib.ListN.{length}
 use Rattle.model.specs.Refusals.{accepted, planNumber, planCounts, planCycles, checkNumber, checkCycles, decodeNumber, decodeCycles, decodeCheck}
 use Rattle.decode.specs.Calls.{Lent, Given, callOf, Left}
 

@@ -91,8 +91,8 @@ fn known_llr(p: Position) -> i16
     }
 }
 
-// The LLR of one position. That of the sample is worked out before the match, which then only selects: so the loop over the
-// positions compiles to no branch, and to four positions at a time.
+// The LLR of one position. That of the sample is worked out before the match, which then only selects: so the loops over the
+// positions compile to no branch, and to several positions at a time.
 pub fn llr_of(p: Position, channel: Channel) -> i16
     ensures { λ r. ⌜ r ≡ llrOf (channel .variance) (positionNamed p) ⌝ }
 {

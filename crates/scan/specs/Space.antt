@@ -41,6 +41,7 @@ pub record CutNode (mask : List ℕ) (m x b s : ℕ) (w : List ℤ) : Type 0 whe
   pub fits : (m + s ≤ x) × (x + s ≤ length w) × (b + s ≤ length mask)
   pub some-kind : T (isSome (kindOf s (part mask b s)))
   pub sized : Sized (leastOf (kindOf s (part mask b s))) s
+  -- only a rate-0 or rate-1 node does not look at its incoming list
   pub looked : isRate01 (kindOf s (part mask b s)) ≡ false → Incoming w x s
 
 -- what a visit of node p at stage t, of s positions from b on, with its incoming list at x, requires; the mask has N positions.

@@ -82,9 +82,9 @@ fn cut_node(work: &mut [i32], mask: &[u8], m: usize, x: usize, from: usize, size
     cut_message(work, k, m, x, size);
 }
 
-// Visits an uncut node: its number is `node`, its stage `stage`, its `size` positions are those from `from` on, and its incoming list is at `list`. The mask has
-// `len` positions (N in the specs), and the message of stage u at position i is at u * N + i. In the first sweep no stored message is read before it is
-// written. Messages of the node and of its children are at m, l and r; a child's incoming list is made at c. A cut child takes no visit.
+// Visits an uncut node: its number is `node`, its stage `stage`, its `size` positions are those from `from` on, and its incoming list is at `list`. The
+// mask has `len` positions (N in the specs), and the message of stage u at position i is at u * N + i. In the first sweep no stored message is read before
+// it is written. Messages of the node and of its children are at m, l and r; a child's incoming list is made at c. A cut child takes no visit.
 fn visit(
     work: &mut [i32],
     plan: &[u8],
@@ -133,8 +133,8 @@ fn visit(
     own_message(work, left, right, m, list, l, c, h);
 }
 
-// One sweep along the plan: a visit of the root, unless it is cut, which is of this stage, with the incoming list that stands past the rows of messages. The first sweep
-// takes the messages before it as they are by definition, whatever is stored.
+// One sweep along the plan: a visit of the root, which is of this stage, or its message where it is cut. Its incoming list stands past the rows of
+// messages. The first sweep takes the messages before it as they are by definition, whatever is stored.
 pub fn sweep(work: &mut [i32], plan: &[u8], mask: &[u8], len: usize, stage: usize, first: bool)
     requires { ⌜ Ready (now plan) (now mask) len stage first (now work) ⌝ }
     ensures { λ _. ⌜ Swept (now (plan .entry)) (now (mask .entry)) len stage first 1 (now (work .entry)) (now (work .exit)) ⌝ }

@@ -50,7 +50,7 @@ pub fn with_sign(neg: bool, m: i32) -> i32
     if neg { -m } else { m }
 }
 
-// -1 - x if neg, else x. Every number has its own, and they are in the opposite order.
+// -1 - x if neg, else x. Every x has such a number, and of two the smaller one's is the larger.
 pub fn flipped(neg: bool, x: i32) -> i32
     ensures { λ r. ⌜ r ≡ cond neg (flip x) x ⌝ }
 {

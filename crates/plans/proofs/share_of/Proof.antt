@@ -1,6 +1,6 @@
 -- `plans::share_of` meets its contract: a row of the table is a kind's. Assumes nothing.
 use mathlib.Core.Path.{_≡_, sym, ap, ap₂, _∙_}
-use mathlib.Core.Bool.{Bool, true, false, cond}
+use mathlib.Core.Bool.{Bool, cond}
 use Prim.Native.Nat.{ℕ, _+_, _≤_}
 use native.Mathlib.Omega.{arith}
 use borrow.Author.Needs.{needs}
@@ -11,8 +11,7 @@ use Rattle.model.specs.Kinds.{order, isSome}
 use Rattle.model.specs.Plans.{cutCycles, isRate01}
 use Rattle.kinds.specs.Runs.{kindNamed}
 use Rattle.kinds.proofs.Table.{is-row}
-use Rattle.plans.specs.Nodes.{fault, share}
-use Rattle.plans.proofs.Shares.{own-small, way-small}
+use Rattle.plans.proofs.Shares.{own-small, edge-share-small}
 use Rattle.plans.proofs.share_of.Statement.{statement}
 use Rattle.plans.proofs.share_of.Tie as tie
 
@@ -20,15 +19,15 @@ use Rattle.plans.proofs.share_of.Tie as tie
 some-is : (c : tie.After-table-row) {b : Bool} → ltb (c .table-row .result .place) 8 ≡ b → isSome (kindNamed (c .before .args .k)) ≡ b
 some-is c e = sym (is-row (kindNamed (c .before .args .k))) ∙ sym (ap (λ (n : ℕ). ltb n (length order)) (c .table-row .ensures .0)) ∙ e
 
--- its own cycles and those of the way, which are few
-sum-is : (c : tie.After-way-cycles) → let o = kindNamed (c .before .before .before .before .before .args .k) in
-    c .before .before .before .before .table-row .result .cycles + c .way-cycles .result ≡ cutCycles o + cond (isRate01 o) 4 6
+-- its own cycles and those of the edge and of the nodes above, which are few
+sum-is : (c : tie.After-edge-share) → let o = kindNamed (c .before .before .before .before .before .args .k) in
+    c .before .before .before .before .table-row .result .cycles + c .edge-share .result ≡ cutCycles o + cond (isRate01 o) 4 6
 sum-is c =
     let row = c .before .before .before .before .table-row .ensures in
-    ap₂ (λ (a b : ℕ). a + b) (row .1) (c .way-cycles .ensures ∙ ap (λ (b : Bool). cond b 4 6) (row .2))
+    ap₂ (λ (a b : ℕ). a + b) (row .1) (c .edge-share .ensures ∙ ap (λ (b : Bool). cond b 4 6) (row .2))
 
-few : (c : tie.After-way-cycles) → c .before .before .before .before .table-row .result .cycles + c .way-cycles .result ≤ 10
-few c = let o = kindNamed (c .before .before .before .before .before .args .k) in omega (arith, sum-is c, own-small o, way-small (isRate01 o))
+few : (c : tie.After-edge-share) → c .before .before .before .before .table-row .result .cycles + c .edge-share .result ≤ 10
+few c = let o = kindNamed (c .before .before .before .before .before .args .k) in omega (arith, sum-is c, own-small o, edge-share-small (isRate01 o))
 
 returns : tie.Need-returns
 returns c =

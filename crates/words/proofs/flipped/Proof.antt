@@ -1,5 +1,4 @@
 -- `words::flipped` meets its contract: its test is the definition's. Assumes nothing.
-use mathlib.Core.Path.{_∙_}
 use mir.Facts.{toZ-ofZ}
 use Rattle.words.proofs.Signed.{flip-is, flip-fits}
 use Rattle.words.proofs.flipped.Statement.{statement}
