@@ -18,11 +18,12 @@ use lib.Ieee.Scale.{round-same, round-val}
 use lib.Ieee.Order.{drop}
 use lib.Ieee.Nearest.{closest, closest-same, nearest-ge}
 use borrow.Author.Tests.{ltb-true, ltb-false}
+use Rattle.model.specs.Soft.{signed}
 use Rattle.model.specs.Samples.{nearestWhole, toLlr}
 use Rattle.samples.proofs.Values.{add-at, sub-at, lt-yes, lt-no}
 use Rattle.samples.specs.Cases.{Zero, Top, aboveZero, underTop, sizeOf, wholeOf}
 use lib.Signed.{mag}
-use mir.Syntax.{w16}
+use mir.Syntax.{w32}
 use mir.Val.{SFits, toZ, ofZ}
 use mir.ValLaws.{toZ-pos, toZ-ofZ}
 
@@ -383,7 +384,7 @@ whole-le (fin false m e) = least (nearestWhole (m * up e) (down e))
     least : (x : ℕ) → min 32767 x < 2 ^ 15
     least x = omega arith
 
-pub negative : (d : Float) → lt d Zero ≡ true → negℤ (pos (wholeOf (neg d))) ≡ toLlr d
+negative : (d : Float) → lt d Zero ≡ true → negℤ (pos (wholeOf (neg d))) ≡ toLlr d
 unfolding lt neg wholeOf toLlr
 negative nan p = absurd (false≢true p)
 negative (inf true) p = refl
@@ -394,7 +395,7 @@ negative (fin false m e) p = absurd (none (m * up e) (down e) (ltb-true (m * up 
     none : (x d : ℕ) → x * 1 < 0 * d → ⊥
     none x d h = omega arith
 
-pub other : (d : Float) → lt d Zero ≡ false → pos (wholeOf d) ≡ toLlr d
+other : (d : Float) → lt d Zero ≡ false → pos (wholeOf d) ≡ toLlr d
 unfolding lt wholeOf toLlr
 other nan p = refl
 other (inf true) p = absurd (true≢false p)
@@ -407,23 +408,32 @@ other (fin true m e) p =
     strip x d h = omega arith
 other (fin false m e) p = refl
 
--- an i16 that is a size below 2 ^ 15, and its negation
-mag-neg : (n : ℕ) → n < 2 ^ 15 → mag (negℤ (pos n)) < 2 ^ 15
-mag-neg zero h = h
-mag-neg (suc n) h = less n h
+-- a size with its sign, in so many bits
+pub mag-signed : (top : ℕ) (s : Bool) (n : ℕ) → n < top → mag (signed s n) < top
+mag-signed top false n h = h
+mag-signed top true zero h = h
+mag-signed top true (suc n) h = less n top h
   where
-    less : (n : ℕ) → suc n < 2 ^ 15 → n < 2 ^ 15
-    less n h = omega arith
+    less : (n t : ℕ) → suc n < t → n < t
+    less n t h = omega arith
 
-pub minus-is : (n : ℕ) → n < 2 ^ 15 → pos 0 -ℤ toZ w16 n ≡ negℤ (pos n)
-minus-is n h = ap (λ (z : ℤ). pos 0 -ℤ z) (toZ-pos w16 n h) ∙ +ℤ-idl (negℤ (pos n))
+minus-is : (n : ℕ) → n < 2 ^ 31 → pos 0 -ℤ toZ w32 n ≡ signed true n
+minus-is n h = ap (λ (z : ℤ). pos 0 -ℤ z) (toZ-pos w32 n h) ∙ +ℤ-idl (negℤ (pos n))
 
-pub minus-fits : (n : ℕ) → n < 2 ^ 15 → SFits w16 (pos 0 -ℤ toZ w16 n)
-minus-fits n h = record { sfits = subst (λ (z : ℤ). mag z < 2 ^ 15) (sym (minus-is n h)) (mag-neg n h) }
+pub minus-fits : (n : ℕ) → n < 2 ^ 31 → SFits w32 (pos 0 -ℤ toZ w32 n)
+minus-fits n h = record { sfits = subst (λ (z : ℤ). mag z < 2 ^ 31) (sym (minus-is n h)) (mag-signed (2 ^ 31) true n h) }
 
-pub minus-back : (n : ℕ) → n < 2 ^ 15 → toZ w16 (ofZ w16 (pos 0 -ℤ toZ w16 n)) ≡ negℤ (pos n)
-minus-back n h = toZ-ofZ w16 (pos 0 -ℤ toZ w16 n) (minus-fits n h) ∙ minus-is n h
+pub minus-back : (n : ℕ) → n < 2 ^ 31 → toZ w32 (ofZ w32 (pos 0 -ℤ toZ w32 n)) ≡ signed true n
+minus-back n h = toZ-ofZ w32 (pos 0 -ℤ toZ w32 n) (minus-fits n h) ∙ minus-is n h
 
 pub size-is : (d : Float) (b : Bool) → lt d Zero ≡ b → sizeOf d ≡ cond b (neg d) d
 unfolding sizeOf
 size-is d b e = ap (λ (t : Bool). cond t (neg d) d) e
+
+-- the size and the sign make the LLR
+pub by-sign : (d : Float) → signed (lt d Zero) (wholeOf (sizeOf d)) ≡ toLlr d
+by-sign d = go (lt d Zero) refl
+  where
+    go : (b : Bool) → lt d Zero ≡ b → signed b (wholeOf (sizeOf d)) ≡ toLlr d
+    go true e = ap (λ (x : Float). negℤ (pos (wholeOf x))) (size-is d true e) ∙ negative d e
+    go false e = ap (λ (x : Float). pos (wholeOf x)) (size-is d false e) ∙ other d e

@@ -1,13 +1,13 @@
 // The front end: samples, position marks and the noise variance to LLRs.
 ghost use mathlib.Core.Path.{_≡_};
-ghost use mathlib.Core.Bool.{_&&_, cond};
+ghost use mathlib.Core.Bool.{cond};
 ghost use Prim.Native.Nat.{_+_, _<_, _≤_};
-ghost use lib.Dec.{leb};
-ghost use lib.ListN.{length, replicate};
+ghost use lib.ListN.{length};
 ghost use Rattle.model.specs.Lists.{over};
+ghost use Rattle.model.specs.Soft.{signed};
 ghost use Rattle.model.specs.Samples.{toLlr, llrOf, llrsOf, positionOf, isFinite, isVariance, isReadable, allReadable};
 ghost use Rattle.model.specs.Refusals.{samplesNumber, samplesLlrs};
-ghost use Rattle.samples.specs.Cases.{positionNamed, aboveZero, underTop, sizeOf, wholeOf, sampleOf, knownLlr};
+ghost use Rattle.samples.specs.Cases.{positionNamed, aboveZero, underTop, sizeOf, wholeOf, sampleOf, knownLlr, selected, sentLlrs, markedLlrs, allFinite, sentFinite};
 
 // A received position.
 pub enum Position {
@@ -61,12 +61,19 @@ fn whole(x: f32) -> u32
     half_up(t as i32 as u32, c < t + 0.5)
 }
 
+// n, or -n where minus. It has the 32 bits of the float that n and its sign come from, so that a loop narrows its values once.
+fn with_sign(n: u32, minus: bool) -> i32
+    requires { ⌜ n < 32768 ⌝ }
+    ensures { λ r. ⌜ r ≡ signed minus n ⌝ }
+{
+    if minus { -(n as i32) } else { n as i32 }
+}
+
 // The LLR of a doubled quotient d: the nearest whole number, halves away from zero, clamped to ±32767.
 pub fn to_llr(d: f32) -> i16
     ensures { λ r. ⌜ r ≡ toLlr d ⌝ }
 {
-    let n = whole(size(d));
-    if d < 0.0 { -(n as i16) } else { n as i16 }
+    with_sign(whole(size(d)), d < 0.0) as i16
 }
 
 // The sample of a sent position, and 0 for another, whose LLR it is not used for.
@@ -91,17 +98,23 @@ fn known_llr(p: Position) -> i16
     }
 }
 
-// The LLR of one position. That of the sample is worked out before the match, which then only selects: so the loops over the
-// positions compile to no branch, and to several positions at a time.
-pub fn llr_of(p: Position, channel: Channel) -> i16
-    ensures { λ r. ⌜ r ≡ llrOf (channel .variance) (positionNamed p) ⌝ }
+// The LLR of a position whose sample gives l: l where it was sent, and else the known one. A choice of two values, so that a
+// loop over the positions compiles to no branch, and to several positions at a time.
+fn select(p: Position, l: i16) -> i16
+    ensures { λ r. ⌜ r ≡ selected (positionNamed p) l ⌝ }
 {
-    let q = sample_of(p) / channel.variance;
-    let l = to_llr(q + q);
     match p {
         Position::Sent(_) => l,
         Position::Punctured | Position::Shortened => known_llr(p),
     }
+}
+
+// The LLR of one position.
+pub fn llr_of(p: Position, channel: Channel) -> i16
+    ensures { λ r. ⌜ r ≡ llrOf (channel .variance) (positionNamed p) ⌝ }
+{
+    let q = sample_of(p) / channel.variance;
+    select(p, to_llr(q + q))
 }
 
 // Whether x is neither a NaN nor an infinity: it lies strictly between the two infinities.
@@ -143,43 +156,52 @@ fn readable(p: Position) -> bool
     }
 }
 
-// Whether the mark m is at most 2 and its position readable.
-fn readable_of(m: u8, y: f32) -> bool
-    ensures { λ r. ⌜ r ≡ (leb m 2 && isReadable (positionOf m y)) ⌝ }
-{
-    inputs::both(m <= 2, readable(position_of(m, y)))
-}
-
-// Whether each mark is at most 2 and each sent sample is finite.
-fn all_readable(marks: &[u8], samples: &[f32]) -> bool
-    requires { ⌜ length (now marks) ≡ length (now samples) ⌝ }
-    ensures { λ r. ⌜ r ≡ allReadable (now (marks .entry)) (now (samples .entry)) ⌝ }
+// Whether every sample is finite, sent or not.
+fn all_finite(samples: &[f32]) -> bool
+    ensures { λ r. ⌜ r ≡ allFinite (now (samples .entry)) ⌝ }
 {
     let mut ok = true;
     let mut i = 0;
-    while i < marks.len() {
-        ok = inputs::both(ok, readable_of(marks[i], samples[i]));
+    while i < samples.len() {
+        ok = inputs::both(ok, finite(samples[i]));
         i += 1;
     }
     ok
 }
 
-// One LLR for each position, into the front of llrs.
-fn fill_by_marks(samples: &[f32], marks: &[u8], channel: Channel, llrs: &mut [i16])
-    requires { ⌜ (length (now marks) ≡ length (now samples)) × (length (now samples) ≤ length (now llrs)) ⌝ }
-    ensures { λ _. ⌜ now (llrs .exit) ≡ over (llrsOf (channel .variance) (now (marks .entry)) (now (samples .entry))) (now (llrs .entry)) ⌝ }
+// Whether each sent sample is finite.
+fn sent_finite(marks: &[u8], samples: &[f32]) -> bool
+    requires { ⌜ length (now marks) ≡ length (now samples) ⌝ }
+    ensures { λ r. ⌜ r ≡ sentFinite (now (marks .entry)) (now (samples .entry)) ⌝ }
 {
+    let mut ok = true;
     let mut i = 0;
-    while i < samples.len() {
-        llrs[i] = llr_of(position_of(marks[i], samples[i]), channel);
+    while i < marks.len() {
+        ok = inputs::both(ok, readable(position_of(marks[i], samples[i])));
         i += 1;
     }
+    ok
 }
 
-// The same where every position was sent.
+// Whether each mark is at most 2 and each sent sample is finite. Where all samples are finite, which the shorter loop tells, it
+// does not matter which of them were sent.
+fn all_readable(marks: &[u8], samples: &[f32]) -> bool
+    requires { ⌜ length (now marks) ≡ length (now samples) ⌝ }
+    ensures { λ r. ⌜ r ≡ allReadable (now (marks .entry)) (now (samples .entry)) ⌝ }
+{
+    if !inputs::at_most(marks, 2) {
+        return false;
+    }
+    if all_finite(samples) {
+        return true;
+    }
+    sent_finite(marks, samples)
+}
+
+// One LLR for each sample, as if all positions were sent, into the front of llrs.
 fn fill_sent(samples: &[f32], channel: Channel, llrs: &mut [i16])
     requires { ⌜ length (now samples) ≤ length (now llrs) ⌝ }
-    ensures { λ _. ⌜ now (llrs .exit) ≡ over (llrsOf (channel .variance) (replicate (length (now (samples .entry))) 0) (now (samples .entry))) (now (llrs .entry)) ⌝ }
+    ensures { λ _. ⌜ now (llrs .exit) ≡ over (sentLlrs (channel .variance) (now (samples .entry))) (now (llrs .entry)) ⌝ }
 {
     let mut i = 0;
     while i < samples.len() {
@@ -188,16 +210,28 @@ fn fill_sent(samples: &[f32], channel: Channel, llrs: &mut [i16])
     }
 }
 
-// The same for any marks. Where all positions were sent, which is known before the loop, the loop need not select.
+// Puts the known LLR in the place of each position that was not sent. The others stay, so no sample is asked for.
+fn set_known(marks: &[u8], llrs: &mut [i16])
+    requires { ⌜ length (now marks) ≤ length (now llrs) ⌝ }
+    ensures { λ _. ⌜ now (llrs .exit) ≡ over (markedLlrs (now (marks .entry)) (now (llrs .entry))) (now (llrs .entry)) ⌝ }
+{
+    let mut i = 0;
+    while i < marks.len() {
+        llrs[i] = select(position_of(marks[i], 0.0), llrs[i]);
+        i += 1;
+    }
+}
+
+// One LLR for each position, into the front of llrs. Where all positions were sent, no LLR is to be replaced.
 fn fill(samples: &[f32], marks: &[u8], channel: Channel, llrs: &mut [i16])
     requires { ⌜ (length (now marks) ≡ length (now samples)) × (length (now samples) ≤ length (now llrs)) ⌝ }
     ensures { λ _. ⌜ now (llrs .exit) ≡ over (llrsOf (channel .variance) (now (marks .entry)) (now (samples .entry))) (now (llrs .entry)) ⌝ }
 {
+    fill_sent(samples, channel, llrs);
     if inputs::at_most(marks, 0) {
-        fill_sent(samples, channel, llrs);
-    } else {
-        fill_by_marks(samples, marks, channel, llrs);
+        return;
     }
+    set_known(marks, llrs);
 }
 
 // Samples to LLRs. The number of samples is N; marks are 0 sent, 1 punctured, 2 shortened. The answer is the number.

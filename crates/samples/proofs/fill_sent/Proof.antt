@@ -1,21 +1,22 @@
--- `samples::fill_sent` meets its contract: every mark is 0. The loop's invariant: the buffer has the first i LLRs and then what it held. Assumes nothing.
-use mathlib.Core.Path.{_≡_, refl, sym, ap, _∙_}
-use Prim.Native.Nat.{ℕ, _≤_, _-_}
+-- `samples::fill_sent` meets its contract. The loop's invariant: the buffer has the first i LLRs and then what it held. Assumes nothing.
+use mathlib.Core.Path.{_≡_, refl, sym, _∙_}
+use Prim.Native.Nat.{_≤_, _-_}
 use native.Mathlib.Omega.{arith}
-use lib.ListN.{length, getD, replicate, length-set, length-replicate, getD-replicate}
-use lib.Ieee.{nan}
+use lib.IntN.{ℤ}
+use lib.ListN.{length, length-set, length-map, List·getD-map}
+use lib.Ieee.{Float, nan}
 use mir.Syntax.{w16}
 use mir.Val.{toZ, ofZ}
 use borrow.Author.Needs.{needs}
-use Rattle.model.specs.Samples.{llrOf, positionOf}
-use Rattle.samples.specs.Cases.{positionNamed}
+use Rattle.model.specs.Samples.{sent, llrOf}
+use Rattle.samples.specs.Cases.{positionNamed, sentLlrs}
 use Rattle.samples.proofs.Stores.{Stored, one-stored, all-stored}
 use Rattle.samples.proofs.fill_sent.Statement.{statement}
 use Rattle.samples.proofs.fill_sent.Tie as tie
 
 abbrev Inv-loop : tie.InvT-loop
 Inv-loop samples channel llrs₀ i₀ llrs i =
-    (i ≤ length samples) × (length llrs ≡ length llrs₀) × (llrs ≡ Stored (channel .variance) (replicate (length samples) 0) samples llrs₀ i)
+    (i ≤ length samples) × (length llrs ≡ length llrs₀) × (llrs ≡ Stored (sentLlrs (channel .variance) samples) llrs₀ i)
 
 abbrev μ-loop : tie.MeasureT-loop
 μ-loop samples channel llrs₀ i₀ llrs i = length samples - i
@@ -24,27 +25,27 @@ loop-holds : tie.Need-loop-holds Inv-loop μ-loop
 loop-holds c = (omega arith, refl, refl)
 
 loop-again : tie.Need-loop-again Inv-loop μ-loop
-unfolding positionOf positionNamed
+unfolding positionNamed
 loop-again c =
     let s = c .before .before .before .before .before in
     let l = c .before .before .before .loop in
-    let v = s .args .channel .variance in
-    let n = length (s .args .samples .now) in
+    let f : Float → ℤ = λ (y : Float). llrOf (s .args .channel .variance) (sent y) in
+    let ys = s .args .samples .now in
     let x = toZ w16 (ofZ w16 (c .llr-of .result)) in
     let back : x ≡ c .llr-of .result = search needs in
-    let zero = getD-replicate {A = ℕ} n (l .i) 0 0 (c .before .before .loop-test .taken) in (
+    let many : length (sentLlrs (s .args .channel .variance) ys) ≡ length ys = length-map ys f in (
       omega arith,
       length-set (l .llrs) (l .i) x ∙ l .inv .1,
-      one-stored v (replicate n 0) (s .args .samples .now) (s .args .llrs .now) (l .llrs) (l .i) (length-replicate {A = ℕ} n 0) (l .inv .2) x
-          (omega arith) (omega arith) (back ∙ c .llr-of .ensures ∙ sym (ap (λ (m : ℕ). llrOf v (positionOf m (getD (s .args .samples .now) (l .i) nan))) zero)),
+      one-stored (sentLlrs (s .args .channel .variance) ys) (s .args .llrs .now) (l .llrs) (l .i) (l .inv .2) (f nan) x
+          (omega arith) (omega arith) (back ∙ c .llr-of .ensures ∙ sym (List·getD-map f ys (l .i) nan)),
     )
 
 returns : tie.Need-returns Inv-loop μ-loop
 returns c =
     let s = c .before .before .before in
     let l = c .before .loop in
-    let n = length (s .args .samples .now) in
-    all-stored (s .args .channel .variance) (replicate n 0) (s .args .samples .now) (s .args .llrs .now) (l .llrs) (l .i) (length-replicate {A = ℕ} n 0) (l .inv .2) (omega arith)
+    let many = length-map (s .args .samples .now) (λ (y : Float). llrOf (s .args .channel .variance) (sent y)) in
+    all-stored (sentLlrs (s .args .channel .variance) (s .args .samples .now)) (s .args .llrs .now) (l .llrs) (l .i) (l .inv .2) (omega arith)
 
 pub fill-sent-spec : {M : Type 1} → statement M
 fill-sent-spec =
