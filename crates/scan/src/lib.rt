@@ -1,10 +1,12 @@
 // The planned walk over one lent workspace.
 use by_list::message_by_list;
 use combine::message_left_certain;
+use combine::message_of_leaves;
 use combine::message_right_zero;
 use combine::node_message;
 use halves::left_list;
 use halves::right_list;
+use inputs::UNFROZEN;
 use kinds::Fixed;
 use kinds::cut_kind;
 use kinds::fixed_message;
@@ -12,7 +14,9 @@ use kinds::is_fixed;
 use messages::cut_message;
 use messages::rate_one_message;
 use messages::rate_zero_message;
+use words::MARK;
 use words::copy_words;
+use words::fill;
 use words::load_llrs;
 ghost use mathlib.Core.Path.{_≡_};
 ghost use Prim.Native.Nat.{_+_, _*_, _≤_, _<_};
@@ -22,12 +26,14 @@ ghost use mathlib.Core.List.{map};
 ghost use Rattle.model.specs.Soft.{finite, mark};
 ghost use Rattle.model.specs.Lists.{part};
 ghost use Rattle.model.specs.Scan.{scan};
+ghost use Rattle.model.specs.Encoding.{isUnfrozen};
 ghost use Rattle.model.specs.Kinds.{kindOf};
 ghost use Rattle.model.specs.Plans.{isCut};
 ghost use Rattle.messages.specs.Cut.{cutWords};
-ghost use Rattle.words.specs.Words.{stored, write, Holds};
+ghost use Rattle.words.specs.Words.{stored, write, Holds, Words};
 ghost use Rattle.halves.specs.Halves.{Places, Combinable, RightListAt, nodeWords};
-ghost use mathlib.Core.Bool.{true, false, cond, _||_};
+ghost use mathlib.Core.Bool.{true, false, cond, not, _||_};
+ghost use Rattle.scan.specs.Pairs.{pairWords};
 ghost use Rattle.scan.specs.Space.{CutNode, Room, Visited, Ready, Swept, withLlrs, Decodable};
 
 // The message of a child whose message is fixed, at m: certain or 0 everywhere.
@@ -82,6 +88,33 @@ fn cut_node(work: &mut [i32], mask: &[u8], m: usize, x: usize, from: usize, size
     cut_message(work, k, m, x, size);
 }
 
+fn is_frozen(byte: u8) -> bool
+    ensures { λ r. ⌜ r ≡ not (isUnfrozen byte) ⌝ }
+{
+    byte != UNFROZEN
+}
+
+// A leaf's word.
+fn leaf_word(frozen: bool) -> i32
+    ensures { λ r. ⌜ r ≡ cond frozen (pos mark) (pos 0) ⌝ }
+{
+    if frozen { MARK } else { 0 }
+}
+
+// The messages of an uncut node of two positions, at m, and of its leaves, each at its own position: the first one is `from`, and the node's incoming list
+// is at x.
+fn leaf_pair(work: &mut [i32], mask: &[u8], m: usize, x: usize, from: usize)
+    requires { ⌜ Places m x from 1 (length (now work)) × (from + 2 ≤ length (now mask)) ⌝ }
+    requires { ⌜ Words (now work) x 2 ⌝ }
+    ensures { λ _. ⌜ now (work .exit) ≡ pairWords (now (mask .entry)) (now (work .entry)) m x from ⌝ }
+{
+    let left = is_frozen(mask[from]);
+    let right = is_frozen(mask[from + 1]);
+    fill(work, from, 1, leaf_word(left));
+    fill(work, from + 1, 1, leaf_word(right));
+    message_of_leaves(work, left, right, m, x, from);
+}
+
 // Visits an uncut node: its number is `node`, its stage `stage`, its `size` positions are those from `from` on, and its incoming list is at `list`. The
 // mask has `len` positions (N in the specs), and the message of stage u at position i is at u * N + i. In the first sweep no stored message is read before
 // it is written. Messages of the node and of its children are at m, l and r; a child's incoming list is made at c. A cut child takes no visit.
@@ -115,6 +148,8 @@ fn visit(
         left_list(work, first, c, list, r, h);
         if plan[child] == 1 {
             cut_node(work, mask, l, c, from, h);
+        } else if h == 2 {
+            leaf_pair(work, mask, l, c, from);
         } else {
             visit(work, plan, mask, len, below, h, child, from, c, first);
         }
@@ -126,6 +161,8 @@ fn visit(
         right_list(work, left.certain, c, list, l, h);
         if plan[child + 1] == 1 {
             cut_node(work, mask, r, c, middle, h);
+        } else if h == 2 {
+            leaf_pair(work, mask, r, c, middle);
         } else {
             visit(work, plan, mask, len, below, h, child + 1, middle, c, first);
         }

@@ -16,16 +16,20 @@ use mathlib.Core.List.{List}
 use Rattle.model.specs.Soft.{mark}
 use Rattle.words.specs.Words.{write}
 use Rattle.model.specs.Lists.{part}
+use Rattle.halves.specs.Halves.{Places}
+use Rattle.scan.specs.Pairs.{pairWords}
 use Rattle.scan.specs.Space.{CutNode, Room, Visited}
 use Rattle.scan.proofs.Nodes.{Numbers, numbers-of}
 use Rattle.scan.proofs.Runs.{Run, AfterLeft, AfterRight, LeftDone, RightDone, no-list, a-list, run}
 use Rattle.scan.proofs.Cuts.{not-leaf, visited-fixed, cut-asked, cut-visited}
+use Rattle.scan.proofs.Pairs.{pair-asked, pair-visited}
 use Rattle.scan.proofs.+visit.{statement}
 use Rattle.scan.proofs.+visit.Tie.{close}
 use Rattle.scan.proofs.visit.Reads as visit
 use Rattle.scan.proofs.visit.Kinds as visit-kinds
 use Rattle.scan.proofs.+visit.Lts-visit as visit-lts
 use Rattle.scan.proofs.cut_node.Reads as cut-node-reads
+use Rattle.scan.proofs.leaf_pair.Reads as leaf-pair-reads
 use Rattle.kinds.proofs.fixed_message.Reads as fixed-message-reads
 use Rattle.kinds.proofs.is_fixed.Reads as is-fixed-reads
 use Rattle.scan.proofs.fixed_child.Reads as fixed-child-reads
@@ -44,7 +48,7 @@ visit-below t = and 3 visit-kinds.ps (falls 3 visit-kinds.ps _<_ μ-visit t) vis
 
 -- what the callees ask and ensure
 abbrev around : ℕ → visit-lts.Claims
-around t = (fixed-message-reads.Asked, fixed-message-reads.Learnt, is-fixed-reads.Asked, is-fixed-reads.Learnt, fixed-child-reads.Asked, fixed-child-reads.Learnt, left-list-reads.Asked, left-list-reads.Learnt, cut-node-reads.Asked, cut-node-reads.Learnt, visit-below t, visit.Post, right-list-reads.Asked, right-list-reads.Learnt, own-message-reads.Asked, own-message-reads.Learnt)
+around t = (fixed-message-reads.Asked, fixed-message-reads.Learnt, is-fixed-reads.Asked, is-fixed-reads.Learnt, fixed-child-reads.Asked, fixed-child-reads.Learnt, left-list-reads.Asked, left-list-reads.Learnt, cut-node-reads.Asked, cut-node-reads.Learnt, leaf-pair-reads.Asked, leaf-pair-reads.Learnt, visit-below t, visit.Post, right-list-reads.Asked, right-list-reads.Learnt, own-message-reads.Asked, own-message-reads.Learnt)
 
 module _ (t : ℕ) where
   abbrev Begun : Type 0
@@ -55,7 +59,7 @@ module _ (t : ℕ) where
   MetLeft = visit-lts.Joined1 (around t) (visit-at t) visit.Post
 
   abbrev MetRight : Type 0
-  MetRight = visit-lts.Joined3 (around t) (visit-at t) visit.Post
+  MetRight = visit-lts.Joined4 (around t) (visit-at t) visit.Post
 
   -- an uncut node is no leaf
   above : (c : Begun) → c .before .before .args .stage ≡ 0 → ⊥
@@ -84,12 +88,15 @@ module _ (t : ℕ) where
   visit-cut-node-requires : visit-lts.Need-cut-node-requires (around t) (visit-at t) visit.Post
   visit-cut-node-requires c κs = cut-asked (left-room (c .before .before .before .before)) (eq-eqb _ 1 (c .before .if2 .taken))
 
+  visit-leaf-pair-requires : visit-lts.Need-leaf-pair-requires (around t) (visit-at t) visit.Post
+  visit-leaf-pair-requires c κs = pair-asked (left-room (c .before .before .before .before .before)) (c .before .if3 .taken) (ne-eqb _ 1 (c .before .before .if2 .left))
+
   visit-visit-requires : visit-lts.Need-visit-requires (around t) (visit-at t) visit.Post
   visit-visit-requires c κs =
-      let known = c .before .before .before .before .before .before .before .before in
+      let known = c .before .before .before .before .before .before .before .before .before in
       let start = known .before .before .before in
       let g = numbers (known .before) in
-      (omega arith, (left-room (c .before .before .before .before), ne-eqb _ 1 (c .before .if2 .left)))
+      (omega arith, (left-room (c .before .before .before .before .before), ne-eqb _ 1 (c .before .before .if2 .left)))
 
   left-done : (c : MetLeft) →
       let known = c .before .before .fixed-message .result in
@@ -119,12 +126,21 @@ module _ (t : ℕ) where
         visited = subst (after (m .2 .last .0)) (sym (m .9)) (cut-visited (running el .left-room (known .ensures) made) (eq-eqb _ 1 (m .5 .taken)) _ (m .7 .ensures));
         long = ap length (m .9) ∙ m .7 .kept .0 ∙ m .2 .kept .0;
       })
+      (⊎-elim
+      (λ m.
+      let made = a-list _ _ _ _ (skips ∙ m .0 .left) (m .2 .ensures) in
+      record {
+        list = m .2 .last .0;
+        stored = made;
+        visited = subst (after (m .2 .last .0)) (sym (m .10)) (pair-visited (running el .left-room (known .ensures) made) (m .6 .taken) (ne-eqb _ 1 (m .5 .left)) (m .8 .ensures));
+        long = ap length (m .10) ∙ m .8 .kept .0 ∙ m .2 .kept .0;
+      })
       (λ m. record {
         list = m .2 .last .0;
         stored = a-list _ _ _ _ (skips ∙ m .0 .left) (m .2 .ensures);
-        visited = subst (after (m .2 .last .0)) (sym (m .9)) (m .7 .ensures);
-        long = ap length (m .9) ∙ m .7 .kept .0 ∙ m .2 .kept .0;
-      }))
+        visited = subst (after (m .2 .last .0)) (sym (m .10)) (m .8 .ensures);
+        long = ap length (m .10) ∙ m .8 .kept .0 ∙ m .2 .kept .0;
+      })))
       (c .if1 .came)
 
   after-left : (c : MetLeft) →
@@ -142,28 +158,36 @@ module _ (t : ℕ) where
   right-room c =
       let known = c .before .before .before .before in
       after-left (known .before) .right-room (known .fixed-message2 .ensures)
-      (a-list _ _ _ _ (sym (c .before .before .before .is-fixed2 .ensures) ∙ c .before .before .if3 .left) (c .right-list .ensures))
+      (a-list _ _ _ _ (sym (c .before .before .before .is-fixed2 .ensures) ∙ c .before .before .if4 .left) (c .right-list .ensures))
 
   visit-cut-node-requires-2 : visit-lts.Need-cut-node-requires-2 (around t) (visit-at t) visit.Post
   visit-cut-node-requires-2 c κs =
       let listed = c .before .before .before .before in
       let met = listed .before .before .before .before .before in
       let a = met .before .before .before .before .before .args in
-      subst (λ (m : ℕ). CutNode (a .mask .now) m (a .list + a .size) (a .from + a .size / 2) (a .size / 2) (listed .right-list .last .0)) (sym (place met)) (cut-asked (right-room listed) (eq-eqb _ 1 (c .before .if4 .taken)))
+      subst (λ (m : ℕ). CutNode (a .mask .now) m (a .list + a .size) (a .from + a .size / 2) (a .size / 2) (listed .right-list .last .0)) (sym (place met)) (cut-asked (right-room listed) (eq-eqb _ 1 (c .before .if5 .taken)))
+
+  visit-leaf-pair-requires-2 : visit-lts.Need-leaf-pair-requires-2 (around t) (visit-at t) visit.Post
+  visit-leaf-pair-requires-2 c κs =
+      let listed = c .before .before .before .before .before in
+      let met = listed .before .before .before .before .before in
+      let a = met .before .before .before .before .before .args in
+      let asked = pair-asked (right-room listed) (c .before .if6 .taken) (ne-eqb _ 1 (c .before .before .if5 .left)) in
+      ((subst (λ (m : ℕ). Places m (a .list + a .size) (a .from + a .size / 2) 1 (length (listed .right-list .last .0))) (sym (place met)) (asked .0 .0), asked .0 .1), asked .1)
 
   visit-visit-requires-2 : visit-lts.Need-visit-requires-2 (around t) (visit-at t) visit.Post
   visit-visit-requires-2 c κs =
-      let known = c .before .before .before .before .before .before .before .before in
+      let known = c .before .before .before .before .before .before .before .before .before in
       let met = known .before in
       let start = met .before .before .before .before .before in
       let g = numbers (met .before .before .before) in
-      (omega arith, (right-room (c .before .before .before .before), ne-eqb _ 1 (c .before .if4 .left)))
+      (omega arith, (right-room (c .before .before .before .before .before), ne-eqb _ 1 (c .before .before .if5 .left)))
 
   right-done : (c : MetRight) →
       let known = c .before .before .fixed-message2 .result in
       let met = c .before .before .before in
       let a = met .before .before .before .before .before .args in
-      RightDone (a .plan .now) (a .mask .now) (a .len) (a .node) (a .from) (a .list) (a .size / 2) (a .stage - 1) (a .list + a .size) (a .first) (known .certain || known .zero) (met .if1 .work) (c .if3 .work)
+      RightDone (a .plan .now) (a .mask .now) (a .len) (a .node) (a .from) (a .list) (a .size / 2) (a .stage - 1) (a .list + a .size) (a .first) (known .certain || known .zero) (met .if1 .work) (c .if4 .work)
   right-done c =
       let known = c .before .before .fixed-message2 in
       let met = c .before .before .before in
@@ -192,22 +216,33 @@ module _ (t : ℕ) where
             (m .7 .ensures ∙ ap (λ (i : ℕ). cutWords (kindOf (a .size / 2) (part (a .mask .now) (a .from + a .size / 2) (a .size / 2))) (m .2 .last .0) i (a .list + a .size) (a .size / 2)) (place met)));
         long = ap length (m .9) ∙ m .7 .kept .0 ∙ m .2 .kept .0;
       })
+      (⊎-elim
+      (λ m.
+      let made = a-list _ _ _ _ (skips ∙ m .0 .left) (m .2 .ensures) in
+      record {
+        list = m .2 .last .0;
+        stored = made;
+        visited = subst (after (m .2 .last .0)) (sym (m .10))
+            (pair-visited (after-left met .right-room (known .ensures) made) (m .6 .taken) (ne-eqb _ 1 (m .5 .left))
+            (m .8 .ensures ∙ ap (λ (i : ℕ). pairWords (a .mask .now) (m .2 .last .0) i (a .list + a .size) (a .from + a .size / 2)) (place met)));
+        long = ap length (m .10) ∙ m .8 .kept .0 ∙ m .2 .kept .0;
+      })
       (λ m. record {
         list = m .2 .last .0;
         stored = a-list _ _ _ _ (skips ∙ m .0 .left) (m .2 .ensures);
-        visited = subst (after (m .2 .last .0)) (sym (m .9)) (m .7 .ensures);
-        long = ap length (m .9) ∙ m .7 .kept .0 ∙ m .2 .kept .0;
-      }))
-      (c .if3 .came)
+        visited = subst (after (m .2 .last .0)) (sym (m .10)) (m .8 .ensures);
+        long = ap length (m .10) ∙ m .8 .kept .0 ∙ m .2 .kept .0;
+      })))
+      (c .if4 .came)
 
   after-right : (c : MetRight) →
       let met = c .before .before .before in
       let a = met .before .before .before .before .before .args in
       let known = c .before .before .fixed-message2 .result in
-      AfterRight (a .plan .now) (a .mask .now) (a .len) (a .stage) (a .node) (a .from) (a .list) (a .first) (a .work .now) (a .size / 2) (a .stage - 1) (a .list + a .size) (met .before .before .fixed-message .result .certain) (known .certain) (known .zero) (c .if3 .work)
+      AfterRight (a .plan .now) (a .mask .now) (a .len) (a .stage) (a .node) (a .from) (a .list) (a .first) (a .work .now) (a .size / 2) (a .stage - 1) (a .list + a .size) (met .before .before .fixed-message .result .certain) (known .certain) (known .zero) (c .if4 .work)
   after-right c = after-left (c .before .before .before) .after-right (c .before .before .fixed-message2 .ensures) (right-done c)
 
-  kept-right : (c : MetRight) → length (c .if3 .work) ≡ length (c .before .before .before .before .before .before .before .before .args .work .now)
+  kept-right : (c : MetRight) → length (c .if4 .work) ≡ length (c .before .before .before .before .before .before .before .before .args .work .now)
   kept-right c = right-done c .long ∙ left-done (c .before .before .before) .long
 
   -- ---- the node's message
@@ -234,6 +269,7 @@ pub +visit-spec : {M : Type 1} → statement M
     (λ c κs. let el = c .before .before .before .before in let start = el .before .before in let g = numbers t el in ((omega arith, omega arith, omega arith), running t el .list-asked))
     (λ c. let el = c .before .before .before .before .before .before .before in let start = el .before .before in let g = numbers t el in omega arith)  -- plan[child]
     (visit-cut-node-requires t)
+    (visit-leaf-pair-requires t)
     (visit-visit-requires t)
     (λ c. let el = c .before .before .before in let start = el .before .before in let g = numbers t el in omega arith)  -- child + 1
     (λ c κs. let el = c .before .before .before in let start = el .before .before in let g = numbers t el in ((omega arith, omega arith), running t el .kind-right))
@@ -243,7 +279,8 @@ pub +visit-spec : {M : Type 1} → statement M
     (λ c. let met = c .before .before .before .before .before .before in let start = met .before .before .before .before .before in let g = numbers t (met .before .before .before) in omega arith)  -- child + 1
     (λ c. let met = c .before .before .before .before .before .before .before in let start = met .before .before .before .before .before in let g = numbers t (met .before .before .before) in omega arith)  -- plan[child + 1]
     (visit-cut-node-requires-2 t)
-    (λ c. let met = c .before .before .before .before .before .before .before .before .before in let start = met .before .before .before .before .before in let g = numbers t (met .before .before .before) in omega arith)  -- child + 1
+    (visit-leaf-pair-requires-2 t)
+    (λ c. let met = c .before .before .before .before .before .before .before .before .before .before in let start = met .before .before .before .before .before in let g = numbers t (met .before .before .before) in omega arith)  -- child + 1
     (visit-visit-requires-2 t)
     (visit-own-message-requires t)
     (λ c. c .before .own-message .kept .0 ∙ kept-right t (c .before .before .before))
