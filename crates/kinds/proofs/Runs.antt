@@ -1,15 +1,17 @@
 -- A mask is of a kind exactly if it is a run of frozen positions, as long as the kind says, and unfrozen ones after it; the bytes at its ends tell which kind. Assumes nothing.
-use Prim.Native.Nat.{ℕ, zero, suc, _+_, _-_, _<_, _≤_}
+use Prim.Native.Nat.{ℕ, zero, suc, _+_, _-_, _/_, _<_, _≤_}
+use native.Mathlib.Nat.{le-of-suc-le-suc, eq-or-lt-of-le}
 use native.Mathlib.Numerals.{add-one}
 use native.Mathlib.Omega.{arith}
-use mathlib.Core.Path.{_≡_, refl, sym, ap, ap₂, _∙_}
+use mathlib.Core.Path.{_≡_, refl, sym, ap, ap₂, _∙_, subst}
+use mathlib.Core.Logic.{⊎-elim}
 use mathlib.Core.Bool.{Bool, true, false, cond, not, _&&_}
 use mathlib.Core.Option.{Option, none, some}
 use mathlib.Core.List.{List, [], _∷_, _++_, append-nil}
-use borrow.Author.Tests.{le-leb, ne-eqb}
+use borrow.Author.Tests.{le-leb, lt-leb, leb-true, leb-false, eq-eqb, ne-eqb}
 use lib.Dec.{T, eqb, leb}
 use lib.ListN.{replicate, length, take, drop, getD, length-drop, length-replicate, take-append-drop, drop-of-length-le, List·getD-append, getD-replicate}
-use lib.Seq.{drop-cons, length-take-le, getD-append-add}
+use lib.Seq.{drop-cons, length-take-le, getD-append-add, getD-take, getD-drop}
 use Rattle.model.specs.Lists.{same}
 use Rattle.model.specs.Encoding.{isUnfrozen, frozenToZero}
 use Rattle.model.specs.Kinds.{Kind, rate-0, rate-1, REP, SPC, type-I, type-III, type-II, type-IV, order, leastSize, pattern, onlyFirst, fits, firstOf, kindOf, isSome, isKind, row}
@@ -17,7 +19,7 @@ use Rattle.model.proofs.Lists.{eqb-same, eqb-apart, true-T, absurd-bool, and-T,
 use Rattle.model.proofs.Shortcuts.{kind-facts}
 use Rattle.model.proofs.Orders.{finds, has-order}
 use Rattle.model.proofs.FrozenPositions.{toZero-at, toZero-length, toZero-l, toZero-r, toZero-unfrozen, kinds-alike}
-use Rattle.kinds.specs.Runs.{allAre, front, Ends}
+use Rattle.kinds.specs.Runs.{allAre, front, longSide, shortSide, Ends}
 
 -- ---- `same`
 same-refl : (a : List ℕ) → same a a ≡ true
@@ -229,9 +231,9 @@ byPlaces mask =
     let l : ℕ = length mask in
     cond (eqb (getD m (l - 1) 0) 1) rate-0 (cond (eqb (getD m 0 0) 1) (mixed m l) rate-1)
 
-pub by-ends : (mask : List ℕ) (k : Kind) → leastSize k ≤ length mask → byPlaces mask ≡ k → Ends mask (some k) (front k (length mask))
-by-ends mask k h e =
-    record { kind = k; named = refl; run = refl; room = h; only = λ t. ap some (sym (ends ∙ e)) ∙ told mask t .ends }
+pub by-ends : (mask : List ℕ) (k : Kind) → leastSize k ≤ length mask → byPlaces mask ≡ k → shortSide (front k (length mask)) mask ≡ true → Ends mask (some k) (front k (length mask))
+by-ends mask k h e short =
+    record { kind = k; named = refl; run = refl; room = h; only = λ t. ap some (sym (ends ∙ e)) ∙ told mask t .ends; short = short }
   where
     ends : byEnds (frozenToZero mask) ≡ byPlaces mask
     ends = rw (toZero-length mask)
@@ -253,36 +255,104 @@ module _ (mask : List ℕ) {o : Option Kind} {f : ℕ} (E : Ends mask o f) where
   as-run : pattern (E .kind) (length mask) ≡ onlyFirst f (length mask)
   as-run = pattern-run (E .kind) (length mask) (E .room) .1 ∙ ap (λ (n : ℕ). onlyFirst n (length mask)) (sym (E .run))
 
-  pub of-run : same (frozenToZero mask) (onlyFirst f (length mask)) ≡ true → o ≡ kindOf (length mask) mask
+  -- the longer side is left to be tested
+  side-left : same (frozenToZero mask) (onlyFirst f (length mask)) ≡ longSide f mask
+  side-left = run-test mask f inside ∙ go (leb f (length mask / 2)) _ _ (E .short)
+    where
+      go : (b x y : Bool) → cond b x y ≡ true → (x && y) ≡ cond b y x
+      go true x y e = ap (λ (z : Bool). z && y) e
+      go false x y e = ap (λ (z : Bool). x && z) e ∙ and-true x
+
+  pub of-run : longSide f mask ≡ true → o ≡ kindOf (length mask) mask
   of-run e = E .only (unfold kindOf in finds order (fits (length mask) mask) (E .kind) fit (has-order (E .kind)))
     where
       fit : T (fits (length mask) mask (E .kind))
       fit =
           and-T (leb (leastSize (E .kind)) (length mask)) (same (frozenToZero mask) (pattern (E .kind) (length mask))) (true-T _ (le-leb (leastSize (E .kind)) (length mask) (E .room)))
-          (true-T _ (ap (same (frozenToZero mask)) as-run ∙ e))
+          (true-T _ (ap (same (frozenToZero mask)) as-run ∙ side-left ∙ e))
 
-  pub no-run : same (frozenToZero mask) (onlyFirst f (length mask)) ≡ false → none ≡ kindOf (length mask) mask
+  pub no-run : longSide f mask ≡ false → none ≡ kindOf (length mask) mask
   no-run e = go (kindOf (length mask) mask) refl
     where
       go : (q : Option Kind) → kindOf (length mask) mask ≡ q → none ≡ q
       go none q = refl
       go (some k) q =
           let is : kindOf (length mask) mask ≡ some (E .kind) = sym (E .only (rw q tt)) ∙ E .named in
-          absurd (absurd-bool (same (frozenToZero mask) (frozenToZero mask)) (same-refl (frozenToZero mask)) (ap (same (frozenToZero mask)) (kind-facts (length mask) mask (E .kind) is .1 ∙ as-run) ∙ e))
+          absurd (absurd-bool (same (frozenToZero mask) (frozenToZero mask)) (same-refl (frozenToZero mask)) (ap (same (frozenToZero mask)) (kind-facts (length mask) mask (E .kind) is .1 ∙ as-run) ∙ side-left ∙ e))
 
--- ---- a run that is broken, and one more byte
--- a frozen position after the first f
-broken : (mask : List ℕ) (f : ℕ) → f < length mask → (getD mask f 0 ≡ 0 → ⊥) → allAre 0 (frozenToZero (drop f mask)) ≡ false
-unfolding allAre frozenToZero
-broken mask f lt frozen = rw (drop-cons mask f 0 lt, ne-eqb (getD mask f 0) 0 frozen)
-
+-- ---- a side that is broken, one that is kept to, and one more byte
 and-none : (b : Bool) → (b && false) ≡ false
 and-none true = refl
 and-none false = refl
 
-pub run-broken : (mask : List ℕ) (f : ℕ) → f < length mask → (getD mask f 0 ≡ 0 → ⊥) → false ≡ same (frozenToZero mask) (onlyFirst f (length mask))
-run-broken mask f lt frozen =
-    sym (run-test mask f (omega arith) ∙ ap (λ (b : Bool). allAre 1 (frozenToZero (take f mask)) && b) (broken mask f lt frozen) ∙ and-none (allAre 1 (frozenToZero (take f mask))))
+not-all : (b : ℕ) (l : List ℕ) (i : ℕ) → i < length l → (getD l i 0 ≡ b → ⊥) → allAre b l ≡ false
+unfolding allAre
+not-all b [] i lt n = absurd (omega arith)
+not-all b (x ∷ xs) zero lt n = rw (ne-eqb x b n)
+not-all b (x ∷ xs) (suc i) lt n = ap (λ (z : Bool). eqb x b && z) (not-all b xs i (omega arith) n) ∙ and-none (eqb x b)
+
+all-of : (b : ℕ) (l : List ℕ) → ((i : ℕ) → i < length l → getD l i 0 ≡ b) → allAre b l ≡ true
+unfolding allAre
+all-of b [] h = refl
+all-of b (x ∷ xs) h = ap₂ (λ (y z : Bool). y && z) (eq-eqb x b (h 0 (omega arith))) (all-of b xs (λ i lt. h (suc i) (omega arith)))
+
+abbrev pub Frozen : List ℕ → ℕ → Type 0
+Frozen mask i = getD mask i 0 ≡ 0 → ⊥
+
+abbrev pub Unfrozen : List ℕ → ℕ → Type 0
+Unfrozen mask i = getD mask i 0 ≡ 0
+
+-- a position of either side
+module _ (mask : List ℕ) (f i : ℕ) where
+  byte-front : i < f → getD (frozenToZero (take f mask)) i 0 ≡ cond (isUnfrozen (getD mask i 0)) 0 1
+  byte-front lt = toZero-at (take f mask) i ∙ ap (λ (x : ℕ). cond (isUnfrozen x) 0 1) (getD-take f mask i 0 lt)
+
+  byte-back : getD (frozenToZero (drop f mask)) i 0 ≡ cond (isUnfrozen (getD mask (f + i) 0)) 0 1
+  byte-back = toZero-at (drop f mask) i ∙ ap (λ (x : ℕ). cond (isUnfrozen x) 0 1) (getD-drop f mask i 0)
+
+is-one : (x : ℕ) → (x ≡ 0 → ⊥) → _≡_ {A = ℕ} (cond (isUnfrozen x) 0 1) 1
+is-one x n = ap (λ (b : Bool). cond b 0 1) (ne-eqb x 0 n)
+
+is-zero : (x : ℕ) → x ≡ 0 → _≡_ {A = ℕ} (cond (isUnfrozen x) 0 1) 0
+is-zero x e = ap (λ (b : Bool). cond b 0 1) (eq-eqb x 0 e)
+
+module _ (mask : List ℕ) (f : ℕ) where
+  pub front-broken : (i : ℕ) → f ≤ length mask → i < f → Unfrozen mask i → allAre 1 (frozenToZero (take f mask)) ≡ false
+  front-broken i le lt u =
+      not-all 1 (frozenToZero (take f mask)) i (omega (arith, toZero-length (take f mask), length-take-le f mask le))
+      (λ e. let q : 0 ≡ 1 = sym (byte-front mask f i lt ∙ is-zero (getD mask i 0) u) ∙ e in omega arith)
+
+  pub back-broken : (i : ℕ) → f ≤ i → i < length mask → Frozen mask i → allAre 0 (frozenToZero (drop f mask)) ≡ false
+  back-broken i le lt n =
+      not-all 0 (frozenToZero (drop f mask)) (i - f) (omega (arith, toZero-length (drop f mask), length-drop f mask))
+      (λ e. let q : 1 ≡ 0 = sym (byte-back mask f (i - f) ∙ ap (λ (j : ℕ). cond (isUnfrozen (getD mask j 0)) 0 1) (let d : f + (i - f) ≡ i = omega arith in d) ∙ is-one (getD mask i 0) n) ∙ e in omega arith)
+
+  -- which side is the longer
+  pub long-back : f ≤ length mask / 2 → longSide f mask ≡ allAre 0 (frozenToZero (drop f mask))
+  long-back le = ap (λ (b : Bool). cond b (allAre 0 (frozenToZero (drop f mask))) (allAre 1 (frozenToZero (take f mask)))) (le-leb f (length mask / 2) le)
+
+  pub long-front : length mask / 2 < f → longSide f mask ≡ allAre 1 (frozenToZero (take f mask))
+  long-front lt = ap (λ (b : Bool). cond b (allAre 0 (frozenToZero (drop f mask))) (allAre 1 (frozenToZero (take f mask)))) (lt-leb f (length mask / 2) lt)
+
+  -- the shorter side is kept to
+  pub short-by : f ≤ length mask → (f ≤ length mask / 2 → (i : ℕ) → i < f → Frozen mask i) → (length mask / 2 < f → (i : ℕ) → f ≤ i → i < length mask → Unfrozen mask i) → shortSide f mask ≡ true
+  short-by le front-kept back-kept = go (leb f (length mask / 2)) refl
+    where
+      go : (b : Bool) → leb f (length mask / 2) ≡ b → cond b (allAre 1 (frozenToZero (take f mask))) (allAre 0 (frozenToZero (drop f mask))) ≡ true
+      go true e =
+          all-of 1 (frozenToZero (take f mask)) (λ i lt.
+          let below : i < f = omega (arith, toZero-length (take f mask), length-take-le f mask le) in
+          byte-front mask f i below ∙ is-one (getD mask i 0) (front-kept (leb-true f (length mask / 2) e) i below))
+      go false e =
+          all-of 0 (frozenToZero (drop f mask)) (λ i lt.
+          byte-back mask f i ∙ is-zero (getD mask (f + i) 0) (back-kept (omega (arith, leb-false f (length mask / 2) e)) (f + i) (omega arith) (omega (arith, toZero-length (drop f mask), length-drop f mask))))
+
+-- what holds below n and at n, and what holds from g on and at the place before
+pub below-more : (P : ℕ → Type 0) (n : ℕ) → ((i : ℕ) → i < n → P i) → P n → (i : ℕ) → i < suc n → P i
+below-more P n h p i lt = ⊎-elim (λ e. subst P (sym e) p) (λ l. h i l) (eq-or-lt-of-le (le-of-suc-le-suc lt))
+
+pub above-more : (P : ℕ → Type 0) (f g m : ℕ) → g ≤ suc f → ((i : ℕ) → g ≤ i → i < m → P i) → P f → (i : ℕ) → f ≤ i → i < m → P i
+above-more P f g m next h p i le lt = ⊎-elim (λ e. subst P e p) (λ l. h i (omega arith) lt) (eq-or-lt-of-le le)
 
 pub alike-more : (byte : ℕ) (alike : Bool) (part : List ℕ) (i : ℕ) → i < length part
     → (alike && allAre byte (frozenToZero (drop i part))) ≡ ((alike && eqb (cond (isUnfrozen (getD part i 0)) 0 1) byte) && allAre byte (frozenToZero (drop (i + 1) part)))

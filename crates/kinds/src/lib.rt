@@ -6,11 +6,11 @@ ghost use mathlib.Core.Bool.{true, cond, _||_};
 ghost use Prim.Native.Nat.{_+_, _<_, _≤_};
 ghost use lib.Dec.{T};
 ghost use lib.ListN.{length};
-ghost use Rattle.model.specs.Lists.{same, part};
+ghost use Rattle.model.specs.Lists.{part};
 ghost use Rattle.model.specs.Encoding.{isUnfrozen, frozenToZero};
-ghost use Rattle.model.specs.Kinds.{rate-0, rate-1, kindOf, isSome, isKind, onlyFirst};
+ghost use Rattle.model.specs.Kinds.{rate-0, rate-1, kindOf, isSome, isKind};
 ghost use Rattle.model.specs.Plans.{isCut, isRate01, cutCycles};
-ghost use Rattle.kinds.specs.Runs.{kindNamed, rowOf, allAre, Ends};
+ghost use Rattle.kinds.specs.Runs.{kindNamed, rowOf, allAre, longSide, Ends};
 ghost use Rattle.kinds.specs.Known.{FixedAs};
 
 // A row of the table, or none.
@@ -84,21 +84,23 @@ fn all_are(part: &[u8], byte: u8) -> bool
     alike
 }
 
-// Whether the first f positions are frozen and the others unfrozen. The position after the run is looked at first: where the ends fit type IV and the
-// node is of no kind, it is frozen more often than not, and nothing else need be looked at.
+// Whether the longer of two sides keeps to a run of f frozen positions with unfrozen ones after it: those positions are frozen, or these are not. The
+// shorter side is known from the ends. The position next to the middle is looked at first: of the long side it is the one that most often breaks the run.
 fn is_run(mask: &[u8], f: usize) -> bool
-    requires { ⌜ f ≤ length (now mask) ⌝ }
-    ensures { λ r. ⌜ r ≡ same (frozenToZero (now (mask .entry))) (onlyFirst f (length (now (mask .entry)))) ⌝ }
+    requires { ⌜ (0 < length (now mask)) × (f ≤ length (now mask)) ⌝ }
+    ensures { λ r. ⌜ r ≡ longSide f (now (mask .entry)) ⌝ }
 {
-    if f < mask.len() {
-        if mask[f] != UNFROZEN {
+    let m = mask.len();
+    if f <= m / 2 {
+        if mask[m / 2] != UNFROZEN {
             return false;
         }
-    }
-    if all_are(&mask[..f], 1) {
         all_are(&mask[f..], 0)
     } else {
-        false
+        if mask[(m - 1) / 2] == UNFROZEN {
+            return false;
+        }
+        all_are(&mask[..f], 1)
     }
 }
 

@@ -13,7 +13,7 @@ candidate-at-ends-requires : tie.Need-candidate-at-ends-requires
 candidate-at-ends-requires c κs = search needs
 
 is-run-requires : tie.Need-is-run-requires
-is-run-requires c κs = omega (arith, inside (c .before .before .before .args .mask .now) (c .candidate-at-ends .ensures))
+is-run-requires c κs = (omega (arith, c .before .if1 .left), omega (arith, inside (c .before .before .before .args .mask .now) (c .candidate-at-ends .ensures)))
 
 returns-2 : tie.Need-returns-2
 returns-2 c =
