@@ -1,5 +1,5 @@
 -- A mask is of a kind exactly if it is a run of frozen positions, as long as the kind says, and unfrozen ones after it; the bytes at its ends tell which kind. Assumes nothing.
-use Prim.Native.Nat.{ℕ, zero, suc, _+_, _-_, _/_, _<_, _≤_}
+use Prim.Native.Nat.{ℕ, zero, suc, _+_, _-_, _<_, _≤_}
 use native.Mathlib.Nat.{le-of-suc-le-suc, eq-or-lt-of-le}
 use native.Mathlib.Numerals.{add-one}
 use native.Mathlib.Omega.{arith}
@@ -257,7 +257,7 @@ module _ (mask : List ℕ) {o : Option Kind} {f : ℕ} (E : Ends mask o f) where
 
   -- the longer side is left to be tested
   side-left : same (frozenToZero mask) (onlyFirst f (length mask)) ≡ longSide f mask
-  side-left = run-test mask f inside ∙ go (leb f (length mask / 2)) _ _ (E .short)
+  side-left = run-test mask f inside ∙ go (leb (f + f) (length mask)) _ _ (E .short)
     where
       go : (b x y : Bool) → cond b x y ≡ true → (x && y) ≡ cond b y x
       go true x y e = ap (λ (z : Bool). z && y) e
@@ -328,24 +328,24 @@ module _ (mask : List ℕ) (f : ℕ) where
       (λ e. let q : 1 ≡ 0 = sym (byte-back mask f (i - f) ∙ ap (λ (j : ℕ). cond (isUnfrozen (getD mask j 0)) 0 1) (let d : f + (i - f) ≡ i = omega arith in d) ∙ is-one (getD mask i 0) n) ∙ e in omega arith)
 
   -- which side is the longer
-  pub long-back : f ≤ length mask / 2 → longSide f mask ≡ allAre 0 (frozenToZero (drop f mask))
-  long-back le = ap (λ (b : Bool). cond b (allAre 0 (frozenToZero (drop f mask))) (allAre 1 (frozenToZero (take f mask)))) (le-leb f (length mask / 2) le)
+  pub long-back : f + f ≤ length mask → longSide f mask ≡ allAre 0 (frozenToZero (drop f mask))
+  long-back le = ap (λ (b : Bool). cond b (allAre 0 (frozenToZero (drop f mask))) (allAre 1 (frozenToZero (take f mask)))) (le-leb (f + f) (length mask) le)
 
-  pub long-front : length mask / 2 < f → longSide f mask ≡ allAre 1 (frozenToZero (take f mask))
-  long-front lt = ap (λ (b : Bool). cond b (allAre 0 (frozenToZero (drop f mask))) (allAre 1 (frozenToZero (take f mask)))) (lt-leb f (length mask / 2) lt)
+  pub long-front : length mask < f + f → longSide f mask ≡ allAre 1 (frozenToZero (take f mask))
+  long-front lt = ap (λ (b : Bool). cond b (allAre 0 (frozenToZero (drop f mask))) (allAre 1 (frozenToZero (take f mask)))) (lt-leb (f + f) (length mask) lt)
 
   -- the shorter side is kept to
-  pub short-by : f ≤ length mask → (f ≤ length mask / 2 → (i : ℕ) → i < f → Frozen mask i) → (length mask / 2 < f → (i : ℕ) → f ≤ i → i < length mask → Unfrozen mask i) → shortSide f mask ≡ true
-  short-by le front-kept back-kept = go (leb f (length mask / 2)) refl
+  pub short-by : f ≤ length mask → (f + f ≤ length mask → (i : ℕ) → i < f → Frozen mask i) → (length mask < f + f → (i : ℕ) → f ≤ i → i < length mask → Unfrozen mask i) → shortSide f mask ≡ true
+  short-by le front-kept back-kept = go (leb (f + f) (length mask)) refl
     where
-      go : (b : Bool) → leb f (length mask / 2) ≡ b → cond b (allAre 1 (frozenToZero (take f mask))) (allAre 0 (frozenToZero (drop f mask))) ≡ true
+      go : (b : Bool) → leb (f + f) (length mask) ≡ b → cond b (allAre 1 (frozenToZero (take f mask))) (allAre 0 (frozenToZero (drop f mask))) ≡ true
       go true e =
           all-of 1 (frozenToZero (take f mask)) (λ i lt.
           let below : i < f = omega (arith, toZero-length (take f mask), length-take-le f mask le) in
-          byte-front mask f i below ∙ is-one (getD mask i 0) (front-kept (leb-true f (length mask / 2) e) i below))
+          byte-front mask f i below ∙ is-one (getD mask i 0) (front-kept (leb-true (f + f) (length mask) e) i below))
       go false e =
           all-of 0 (frozenToZero (drop f mask)) (λ i lt.
-          byte-back mask f i ∙ is-zero (getD mask (f + i) 0) (back-kept (omega (arith, leb-false f (length mask / 2) e)) (f + i) (omega arith) (omega (arith, toZero-length (drop f mask), length-drop f mask))))
+          byte-back mask f i ∙ is-zero (getD mask (f + i) 0) (back-kept (omega (arith, leb-false (f + f) (length mask) e)) (f + i) (omega arith) (omega (arith, toZero-length (drop f mask), length-drop f mask))))
 
 -- what holds below n and at n, and what holds from g on and at the place before
 pub below-more : (P : ℕ → Type 0) (n : ℕ) → ((i : ℕ) → i < n → P i) → P n → (i : ℕ) → i < suc n → P i

@@ -1,5 +1,5 @@
 -- How the code finds a kind: by the bytes at both ends of a mask and the length of its run of frozen positions. Assumes nothing.
-use Prim.Native.Nat.{ℕ, _-_, _/_, _≤_}
+use Prim.Native.Nat.{ℕ, _+_, _-_, _≤_}
 use mathlib.Core.Path.{_≡_}
 use mathlib.Core.Bool.{Bool, true, cond, _&&_}
 use mathlib.Core.Option.{Option, none, some}
@@ -46,10 +46,10 @@ front type-IV m = 3
 
 -- whether a run of f frozen positions and unfrozen ones after it is kept to on the longer of its two sides, and on the shorter
 abbrev pub longSide : ℕ → List ℕ → Bool
-longSide f mask = cond (leb f (length mask / 2)) (allAre 0 (frozenToZero (drop f mask))) (allAre 1 (frozenToZero (take f mask)))
+longSide f mask = cond (leb (f + f) (length mask)) (allAre 0 (frozenToZero (drop f mask))) (allAre 1 (frozenToZero (take f mask)))
 
 abbrev pub shortSide : ℕ → List ℕ → Bool
-shortSide f mask = cond (leb f (length mask / 2)) (allAre 1 (frozenToZero (take f mask))) (allAre 0 (frozenToZero (drop f mask)))
+shortSide f mask = cond (leb (f + f) (length mask)) (allAre 1 (frozenToZero (take f mask))) (allAre 0 (frozenToZero (drop f mask)))
 
 -- what the bytes at both ends of a mask tell: if it is of a kind at all, then of this one, with the first f positions frozen; the shorter side keeps to that
 pub record Ends (mask : List ℕ) (o : Option Kind) (f : ℕ) : Type 0 where

@@ -91,7 +91,7 @@ fn is_run(mask: &[u8], f: usize) -> bool
     ensures { λ r. ⌜ r ≡ longSide f (now (mask .entry)) ⌝ }
 {
     let m = mask.len();
-    if f <= m / 2 {
+    if f + f <= m {
         if mask[m / 2] != UNFROZEN {
             return false;
         }

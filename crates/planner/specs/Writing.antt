@@ -2,7 +2,7 @@
 use Prim.Native.Nat.{ℕ, zero, suc, _+_, _*_, _-_, _^_, _≤_}
 use mathlib.Core.Bool.{cond}
 use mathlib.Core.List.{List}
-use lib.ListN.{take, drop, set, getD}
+use lib.ListN.{length, take, drop, set, getD}
 use Rattle.model.specs.Kinds.{isSome, kindOf}
 use Rattle.kinds.specs.Runs.{rowOf}
 
@@ -16,6 +16,13 @@ written (suc t) p mask plan =
 -- one more of a row
 abbrev pub noted : ℕ → List ℕ → List ℕ
 noted i cs = set cs i (getD cs i 0 + 1)
+
+-- a plan with node p cut if its part of the mask is of a kind, and counts with it added
+abbrev pub marked : ℕ → List ℕ → List ℕ → List ℕ
+marked p mask plan = cond (isSome (kindOf (length mask) mask)) (set plan p 1) plan
+
+abbrev pub tallied : List ℕ → List ℕ → List ℕ
+tallied mask cs = cond (isSome (kindOf (length mask) mask)) (noted (rowOf (kindOf (length mask) mask)) cs) cs
 
 -- counts by kind with the planner's cuts of a node of stage t added
 unfoldable pub counted : ℕ → List ℕ → List ℕ → List ℕ

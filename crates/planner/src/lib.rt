@@ -6,11 +6,13 @@ use kinds::kind_of;
 use kinds::table_row;
 ghost use mathlib.Core.Path.{_≡_};
 ghost use mathlib.Core.List.{_++_};
-ghost use Prim.Native.Nat.{ℕ, _≤_};
+ghost use mathlib.Core.Bool.{false};
+ghost use Prim.Native.Nat.{ℕ, _<_, _≤_};
 ghost use lib.ListN.{length, getD, drop, replicate};
+ghost use Rattle.model.specs.Kinds.{kindOf, isSome};
 ghost use Rattle.model.specs.Refusals.{planNumber, planBytes, planCounts, planCycles};
 ghost use Rattle.plans.specs.Nodes.{Node};
-ghost use Rattle.planner.specs.Writing.{written, counted, cyclesFrom, Free};
+ghost use Rattle.planner.specs.Writing.{marked, tallied, written, counted, cyclesFrom, Free};
 
 // Sets the first bytes to 0, as many as `count` says.
 fn zero_front(plan: &mut [u8], count: usize)
@@ -24,29 +26,53 @@ fn zero_front(plan: &mut [u8], count: usize)
     }
 }
 
-// Cuts each node of a kind, from node p of stage t down, that has no such node above it, and counts it by its kind.
-fn write_plan(mask: &[u8], plan: &mut [u8], counts: &mut [u32; KINDS], t: usize, p: usize)
-    requires { ⌜ Node t p (length (now mask)) (length (now plan)) ⌝ }
-    requires { ⌜ Free t (now counts) ⌝ }
-    ensures { λ _. ⌜ now (plan .exit) ≡ written t p (now (mask .entry)) (now (plan .entry)) ⌝ }
-    ensures { λ _. ⌜ now (counts .exit) ≡ counted t (now (mask .entry)) (now (counts .entry)) ⌝ }
+// Cuts node p if it is of a kind, and counts it by its kind. Whether it is of a kind.
+fn cut_here(mask: &[u8], plan: &mut [u8], counts: &mut [u32; KINDS], p: usize) -> bool
+    requires { ⌜ (p < length (now plan)) × Free 0 (now counts) ⌝ }
+    ensures { λ r. ⌜ r ≡ isSome (kindOf (length (now (mask .entry))) (now (mask .entry))) ⌝ }
+    ensures { λ _. ⌜ now (plan .exit) ≡ marked p (now (mask .entry)) (now (plan .entry)) ⌝ }
+    ensures { λ _. ⌜ now (counts .exit) ≡ tallied (now (mask .entry)) (now (counts .entry)) ⌝ }
 {
     let row = table_row(kind_of(mask));
     let i = row.place;
     if i < KINDS {
         plan[p] = 1;
         counts[i] += 1;
-        return;
+        true
+    } else {
+        false
     }
-    if t == 0 {
-        return;
-    }
+}
+
+// Cuts each node of a kind, below node p of stage t, which is of none, that has no such node above it, and counts it by its kind.
+fn write_below(mask: &[u8], plan: &mut [u8], counts: &mut [u32; KINDS], t: usize, p: usize)
+    requires { ⌜ Node t p (length (now mask)) (length (now plan)) ⌝ }
+    requires { ⌜ Free t (now counts) × (isSome (kindOf (length (now mask)) (now mask)) ≡ false) ⌝ }
+    ensures { λ _. ⌜ now (plan .exit) ≡ written t p (now (mask .entry)) (now (plan .entry)) ⌝ }
+    ensures { λ _. ⌜ now (counts .exit) ≡ counted t (now (mask .entry)) (now (counts .entry)) ⌝ }
+{
     let u = t - 1;
     let l = 2 * p;
     let r = l + 1;
     let h = mask.len() / 2;
-    write_plan(&mask[..h], plan, counts, u, l);
-    write_plan(&mask[h..], plan, counts, u, r);
+    if !cut_here(&mask[..h], plan, counts, l) {
+        write_below(&mask[..h], plan, counts, u, l);
+    }
+    if !cut_here(&mask[h..], plan, counts, r) {
+        write_below(&mask[h..], plan, counts, u, r);
+    }
+}
+
+// The same from node p down. A cut node takes no call of its own but at the root.
+fn write_plan(mask: &[u8], plan: &mut [u8], counts: &mut [u32; KINDS], t: usize, p: usize)
+    requires { ⌜ Node t p (length (now mask)) (length (now plan)) ⌝ }
+    requires { ⌜ Free t (now counts) ⌝ }
+    ensures { λ _. ⌜ now (plan .exit) ≡ written t p (now (mask .entry)) (now (plan .entry)) ⌝ }
+    ensures { λ _. ⌜ now (counts .exit) ≡ counted t (now (mask .entry)) (now (counts .entry)) ⌝ }
+{
+    if !cut_here(mask, plan, counts, p) {
+        write_below(mask, plan, counts, t, p);
+    }
 }
 
 // The cycles of one sweep along a plan, from the counts of its cut nodes.

@@ -1,7 +1,6 @@
 -- An uncut node above two leaves: what is stored for it is its visit. Assumes nothing.
 use mathlib.Core.Path.{_≡_, refl, sym, ap, ap₂, _∙_, subst, subst₂}
 use mathlib.Core.Bool.{Bool, true, false, cond, not, _&&_, _||_}
-use mathlib.Core.Option.{Option}
 use mathlib.Core.List.{List}
 use Prim.Native.Nat.{ℕ, zero, suc, _+_, _*_, _-_, _^_, _≤_}
 use native.Mathlib.Omega.{arith}
@@ -25,7 +24,7 @@ use Rattle.kinds.proofs.Runs.{Read, told}
 use Rattle.scan.specs.Pairs.{leafWords, pairWords}
 use Rattle.scan.specs.Space.{Room, Visited}
 use Rattle.scan.proofs.Cuts.{leaf-cut, visited-fixed}
-use Rattle.scan.proofs.Runs.{Run, AfterLeft, AfterRight, LeftDone, RightDone, no-list, run-at}
+use Rattle.scan.proofs.Runs.{Run, AfterLeft, LeftDone, RightDone, no-list, run-at}
 
 abbrev free : List ℕ → ℕ → Bool
 free mask b = isUnfrozen (getD mask b 0)

@@ -17,7 +17,7 @@ returns c =
     let s = c .before .before .before .before in
     let mask = s .args .mask .now in
     let low = c .before .before .if1 .taken in
-    sym (long-back mask (s .args .f) low ∙ back-broken mask (s .args .f) (length mask / 2) low (omega (arith, s .pre)) (c .if2 .taken))
+    sym (long-back mask (s .args .f) low ∙ back-broken mask (s .args .f) (length mask / 2) (omega (arith, low)) (omega (arith, s .pre)) (c .if2 .taken))
 
 returns-2 : tie.Need-returns-2
 returns-2 c =
@@ -42,6 +42,7 @@ pub is-run-spec : {M : Type 1} → statement M
 is-run-spec =
     tie.close
     (tie.spec
+    (λ c. search needs)
     (λ c. search needs)
     returns
     (λ c. search needs) (λ c. search needs) (λ c. search needs)  -- mask[f..]
