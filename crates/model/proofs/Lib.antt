@@ -19,5 +19,6 @@ pub mod Orders
 pub mod FormerCounts
 pub mod CountedCycles
 pub mod Scale
+pub mod Captures
 pub mod Theorems
 pub mod Frames

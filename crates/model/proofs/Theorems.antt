@@ -1,6 +1,6 @@
 -- The theorems over document 01's definitions, for every N = 2 ^ n, mask, plan, number of sweeps k and list L of LLRs.
 -- The other files of this folder lead to them. Assumes nothing.
-use mathlib.Core.Path.{_≡_, sym, ap, _∙_}
+use mathlib.Core.Path.{_≡_, refl, sym, ap, _∙_}
 use mathlib.Core.Logic.{_⊎_, inl, inr}
 use mathlib.Core.Bool.{_&&_}
 use mathlib.Core.List.{List, [], _∷_, map}
@@ -18,7 +18,8 @@ use Rattle.model.specs.Plans.{oneCut, cutsOfKinds, wellCut, Allowed, lea
 use Rattle.model.specs.Kinds.{Kind, order, fits, kindBy, ownCycles, shortcut}
 use Rattle.model.specs.Orders.{former, HasAll, countsBy, cutsWith, moved}
 use Rattle.model.specs.Scale.{scaledAll}
-use Rattle.model.specs.Refusals.{DecodeCall, exponent, decodeNumber, decodeCycles}
+use Rattle.model.specs.Refusals.{refusal, row-1, row-2, row-4, row-7, DecodeCall, exponent, decodeNumber, decodeAnswer, decodeCheck, decodeCycles}
+use Rattle.model.specs.Captures.{maskSize, maskIn, frameSize, frameCount, CaptureFrame, frameAt, captureNumber, frameCall, differing, withFrame, totalsOf, sumOver}
 use Rattle.model.specs.Bounds.{SmallAll, Under, AllUnder, InRange, limit, cap}
 use Rattle.model.proofs.Shortcuts.{sound-start}
 use Rattle.model.proofs.Paths.{wellCut-test, allowed-cuts}
@@ -30,6 +31,7 @@ use Rattle.model.proofs.Signs.{signs-hard, signs-payload, signs-check}
 use Rattle.model.proofs.Orders.{same-message, same-cycles, cuts-by, planner-by, walk-by, planned-by, cycles-by, has-order, has-former}
 use Rattle.model.proofs.FormerCounts.{counts-moved, moved-most}
 use Rattle.model.proofs.Scale.{scan-scaled, decode-scaled}
+use Rattle.model.proofs.Captures.{good-mask, frame-left, capture-decodes, sums-are}
 use Rattle.model.proofs.Bounds.{within-sweeps, within-start, within-all, within-held, held-sweeps, in-range, soft-under, under-plus, under-mono, cap-limit}
 
 -- ---- 1. Every accepted decode, whichever allowed plan it is given, equals SCAN walked to the last leaf.
@@ -181,3 +183,30 @@ module _ (c : ℕ) (above : 0 < c) where
 pub cycles-on-scale : (c d : DecodeCall) → c .mask ≡ d .mask → c .plan ≡ d .plan → c .sweeps ≡ d .sweeps → decodeNumber c ≡ 0 → decodeNumber d ≡ 0 → decodeCycles c ≡ decodeCycles d
 unfolding decodeCycles
 cycles-on-scale c d mask plan sweeps p q = rw (p, q) (λ i. sweeps i * cycles (plan i) (exponent (length (mask i))) 1 (mask i))
+
+-- ---- 7. The totals of a capture are the sums over its frames, each decoded by itself.
+
+-- A frame's own tests are all that its decode can refuse, where the mask is good and the frame has N LLRs.
+pub frame-tests : (mask : List ℕ) (f : CaptureFrame) → refusal (row-1 (length mask) ∷ row-2 mask ∷ []) ≡ 0 → length (f .llrs) ≡ length mask
+    → decodeNumber (frameCall mask f) ≡ refusal (row-4 (f .sweeps) ∷ row-7 (f .llrs) ∷ [])
+frame-tests mask f good values = let g = good-mask mask good in frame-left mask (g .0) (g .1) f values
+
+-- So each frame of an accepted capture is an accepted decode.
+pub frames-accepted : (bytes : List ℕ) → captureNumber bytes ≡ 0 → (j : ℕ) → j < frameCount bytes
+    → decodeNumber (frameCall (maskIn bytes) (frameAt bytes (maskSize bytes) (j * frameSize (maskSize bytes)))) ≡ 0
+frames-accepted = capture-decodes
+
+pub record Sums (mask : List ℕ) (drain : ℕ) (fs : List CaptureFrame) : Type 0 where
+  pub frames : totalsOf mask drain fs .frames ≡ sumOver (λ f. 1) drain fs
+  pub checks : totalsOf mask drain fs .checks ≡ sumOver (λ f. decodeCheck (frameCall mask f)) drain fs
+  pub differ : totalsOf mask drain fs .differ ≡ sumOver (λ f. differing (f .llrs) (decodeAnswer (frameCall mask f) .hard)) drain fs
+  pub cycles : totalsOf mask drain fs .cycles ≡ sumOver (λ f. decodeCycles (frameCall mask f)) drain fs
+
+pub totals-sum : (mask : List ℕ) (drain : ℕ) (fs : List CaptureFrame) → Sums mask drain fs
+unfolding withFrame
+totals-sum mask drain fs = record {
+  frames = sums-are mask (λ t. t .frames) (λ f. 1) (λ t x. refl) drain fs refl;
+  checks = sums-are mask (λ t. t .checks) (λ f. decodeCheck (frameCall mask f)) (λ t x. refl) drain fs refl;
+  differ = sums-are mask (λ t. t .differ) (λ f. differing (f .llrs) (decodeAnswer (frameCall mask f) .hard)) (λ t x. refl) drain fs refl;
+  cycles = sums-are mask (λ t. t .cycles) (λ f. decodeCycles (frameCall mask f)) (λ t x. refl) drain fs refl;
+}
