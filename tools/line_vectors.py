@@ -1,8 +1,9 @@
 #!/usr/bin/env python3
 """Prints crates/line_test/stdin: inputs of the line program, each with the answer that document 01 gives.
 
-The answers come from the model here, which is written from documents 01 and 02 alone: SCAN walked to the last leaf, the planner and its
-cycles, the line's grammar, its refusals and its output. Where an answer or a number is plain from them, the model is compared with that.
+The answers come from the model here and in model.py, which is written from documents 01 and 02 alone: SCAN walked to the last leaf, the
+planner and its cycles, the line's grammar, its refusals and its output. Where an answer or a number is plain from them, the model is
+compared with that.
 Run: python3 tools/line_vectors.py > crates/line_test/stdin
 With the number of a case it prints that case's input instead, for target/bin/polar_line.
 
@@ -14,94 +15,10 @@ import random
 import re
 import sys
 
+from model import ALLOWED, CERTAIN, LARGEST_LLR, MOST_SWEEPS, cuts, cycles, decoded, digits_of, drawn_mask, some_of_each
+
 random.seed(13)
-CERTAIN = 'certain'      # the mark, which is larger than every number
-ALLOWED = [2 ** n for n in range(1, 11)]
-MOST_SWEEPS = 8
 LONGEST = 16384
-LARGEST_LLR = 32767
-
-
-# ---- SCAN by definition
-
-def box(a, b):
-    if a is CERTAIN:
-        return b
-    if b is CERTAIN:
-        return a
-    size = min(abs(a), abs(b))
-    return -size if (a < 0) != (b < 0) else size
-
-
-def plus(a, b):
-    return CERTAIN if a is CERTAIN or b is CERTAIN else a + b
-
-
-def scan(mask, llrs, sweeps):
-    """The root's message after the last sweep."""
-    n = len(mask)
-    message = {n + i: [CERTAIN if frozen else 0] for i, frozen in enumerate(mask)}
-    for p in range(1, n):
-        message[p] = [0] * (n >> p.bit_length() - 1)
-
-    def visit(p, incoming):
-        if p >= n:
-            return
-        h = len(incoming) // 2
-        first, second = incoming[:h], incoming[h:]
-        r = message[2 * p + 1]
-        visit(2 * p, [box(first[k], plus(second[k], r[k])) for k in range(h)])
-        l = message[2 * p]
-        visit(2 * p + 1, [plus(box(first[k], l[k]), second[k]) for k in range(h)])
-        r = message[2 * p + 1]
-        message[p] = [box(l[k], plus(second[k], r[k])) for k in range(h)] + [plus(r[k], box(first[k], l[k])) for k in range(h)]
-
-    for _ in range(sweeps):
-        visit(1, llrs)
-    return message[1]
-
-
-def transform(u):
-    """u times the Kronecker power of the rows (1 0), (1 1)."""
-    if len(u) == 1:
-        return u
-    h = len(u) // 2
-    first, second = transform(u[:h]), transform(u[h:])
-    return [a ^ b for a, b in zip(first, second)] + second
-
-
-def digits_of(bits):
-    return ''.join(map(str, bits))
-
-
-# ---- the planner's plan and its cycles
-
-def table(m):
-    """The kinds of document 01 and of request No. 3 in request No. 4's order: name, least size, and the pattern at size m."""
-    return [('rate-0', 1, '1' * m), ('rate-1', 1, '0' * m), ('SPC', 2, '1' + '0' * (m - 1)), ('REP', 2, '1' * (m - 1) + '0'),
-            ('type III', 4, '11' + '0' * (m - 2)), ('type I', 4, '1' * (m - 2) + '00'),
-            ('type II', 8, '1' * (m - 3) + '000'), ('type IV', 8, '111' + '0' * (m - 3))]
-
-
-def kind(part):
-    """The kind of a node by its part of the mask: the first that fits; None if it is of no kind."""
-    mask = digits_of(part)
-    return next((name for name, least, pattern in table(len(mask)) if len(mask) >= least and mask == pattern), None)
-
-
-def cuts(part):
-    """The kinds of the nodes that the planner cuts."""
-    h = len(part) // 2
-    return [kind(part)] if kind(part) else cuts(part[:h]) + cuts(part[h:])
-
-
-def cycles(part):
-    """The cycles of one sweep from a node down."""
-    constant = ('rate-0', 'rate-1')
-    if kind(part):
-        return 0 if kind(part) in constant else 4 if kind(part) in ('type II', 'type IV') else 2
-    h = len(part) // 2
-    return 2 + sum(cycles(child) + (0 if kind(child) in constant else 2) for child in (part[:h], part[h:]))
 
 
 # ---- the line
@@ -129,11 +46,7 @@ def answer(data):
     number, mask, sweeps, llrs = read(data)
     if number:
         return b'no %d\n' % number
-    soft = scan(mask, llrs, sweeps)
-    hard = [0 if x is CERTAIN else int(llr + x < 0) for llr, x in zip(llrs, soft)]
-    u = transform(hard)
-    payload = [bit for bit, frozen in zip(u, mask) if not frozen]
-    check = int(not any(bit for bit, frozen in zip(u, mask) if frozen))
+    soft, hard, payload, check = decoded(mask, sweeps, llrs)
     fields = ['ok', sweeps * cycles(mask), *('inf' if x is CERTAIN else x for x in soft), digits_of(hard), digits_of(payload) or '-', check]
     return ' '.join(map(str, fields)).encode() + b'\n'
 
@@ -492,18 +405,6 @@ def faulty(file):
     file.group('sets of faults')
 
 
-def drawn_mask(n, style):
-    """Nodes of all kinds side by side, or by the ones of the index and the index, with some chance, or by chance alone."""
-    if style % 7 == 0 and n >= 64:
-        patterns = [pattern for _, _, pattern in table(n // 8)]
-        return list(map(int, ''.join(random.sample(patterns, 8))))
-    weight, chance = [(n // 4, 0), (n // 4, n // 8), (n // 2, n), (0, n), (n, 0), (n // 2, 0), (0, 8 * n)][style % 7]
-    measure = [i + weight * bin(i).count('1') + random.randint(0, chance) for i in range(n)]
-    frozen = random.randint(0, n) if n <= 8 else random.randint(n // 4, n * 3 // 4)
-    limit = (sorted(measure) + [max(measure) + 1])[frozen]
-    return [int(x < limit) for x in measure]
-
-
 def drawn_line(n, style):
     """Sizes are small in large lines, which keeps the file small; the signs are even, or those of the zero word with noise."""
     size = random.choice([1, 3, 9, 200, LARGEST_LLR] if n <= 128 else [1, 3, 9])
@@ -543,17 +444,17 @@ def changed(line):
         lambda: bytes([random.choice(b'0123')]) + line[1:]])()
 
 
+def changed_line():
+    line = drawn_line(random.choice([2, 4, 8]), random.randrange(7))
+    for _ in range(random.randint(1, 2)):
+        line = changed(line) if line else line
+    return line
+
+
 def changed_lines(file):
     """Drawn lines with one or two changes, 30 for each number."""
-    count = dict.fromkeys([0, 1, 2, 3, 4, 7, 13], 0)
-    while min(count.values()) < 30:
-        line = drawn_line(random.choice([2, 4, 8]), random.randrange(7))
-        for _ in range(random.randint(1, 2)):
-            line = changed(line) if line else line
-        number = read(line)[0]
-        if count[number] < 30:
-            count[number] += 1
-            file.case(f'changed line {sum(count.values())}', line)
+    for k, line in enumerate(some_of_each([0, 1, 2, 3, 4, 7, 13], 30, changed_line, lambda line: read(line)[0]), 1):
+        file.case(f'changed line {k}', line)
     file.group('changed lines')
 
 

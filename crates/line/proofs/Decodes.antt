@@ -29,14 +29,6 @@ use Rattle.printer.proofs.Whole.{softs-back}
 use Rattle.line.specs.Program.{decodeText, maxText}
 use Rattle.model.proofs.Payload.{length-payload, unfrozen-most}
 
--- the same text, with more room
-pub reprinted : {t t′ o o₁ : List ℕ} {j most most′ : ℕ} → t ≡ t′ → most ≤ most′ → Printed t most o o₁ j → Printed t′ most′ o o₁ j
-reprinted {t} {t′} {o} e h p = record {
-  bytes = p .bytes ∙ ap (λ (x : List ℕ). over (take (length o) x) o) e;
-  ends = p .ends ∙ ap (λ (x : List ℕ). min (length x) (length o)) e;
-  size = omega (arith, p .size, ap length e);
-}
-
 -- the printer's bound for parts of the decoder's buffers
 pub room-enough : {A : Type 0} (n k : ℕ) (soft : List A) (hard payload : List ℕ) → length soft ≡ 1024 → length hard ≡ 1024 → length payload ≡ 1024
     → 12 * length (take n soft) + length (take n hard) + length (take k payload) + 19 ≤ maxText

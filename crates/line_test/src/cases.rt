@@ -1,6 +1,5 @@
 // Cases: the answer to an input, compared with the expected text, also in buffers that are too short for it.
 use crate::texts::Text;
-use crate::texts::put_all;
 use crate::texts::text_of;
 use test_tools::buffers::bytes;
 use test_tools::buffers::lent_bytes;
@@ -9,8 +8,11 @@ use test_tools::numbers::least;
 use test_tools::numbers::one_if;
 use test_tools::report::end_line;
 use test_tools::report::print_values;
+use test_tools::tally::Count;
+use test_tools::tally::sum;
 use test_tools::texts::find;
 use test_tools::texts::part;
+use test_tools::texts::put_all;
 ghost use Prim.Native.Nat.{_+_, _<_, _≤_};
 
 // What a buffer holds before a call; no answer has this byte.
@@ -18,30 +20,6 @@ const FILLER: u8 = b'#';
 
 // More than the longest answer.
 const ROOM: usize = 16384;
-
-// How many cases and calls there were, and how many calls were right.
-pub struct Count {
-    pub cases: usize,
-    pub right: usize,
-    pub calls: usize,
-}
-
-pub fn zero() -> Count {
-    Count {
-        cases: 0,
-        right: 0,
-        calls: 0,
-    }
-}
-
-// None comes near 2 ^ 64.
-pub fn sum(a: Count, b: Count) -> Count {
-    Count {
-        cases: std::num::wrapping_add_usize(a.cases, b.cases),
-        right: std::num::wrapping_add_usize(a.right, b.right),
-        calls: std::num::wrapping_add_usize(a.calls, b.calls),
-    }
-}
 
 fn with_call(c: Count, right: bool) -> Count {
     sum(

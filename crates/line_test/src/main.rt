@@ -4,50 +4,20 @@
 mod cases;
 mod texts;
 
-use cases::Count;
 use cases::run_case;
-use cases::sum;
-use cases::zero;
 use test_tools::buffers::byte_at;
 use test_tools::buffers::bytes;
-use test_tools::report::print_values;
+use test_tools::tally::Tally;
+use test_tools::tally::end_group;
+use test_tools::tally::next_number;
+use test_tools::tally::no_cases;
+use test_tools::tally::report_count;
+use test_tools::tally::with_count;
 use test_tools::texts::find;
 use test_tools::texts::part;
 
-// The counts of a group, and of all groups before it.
-struct Tally {
-    group: Count,
-    total: Count,
-}
-
-fn report(name: &[u8], c: Count) {
-    io::write_all(1, name);
-    print_values(
-        b": | cases, | of ",
-        [c.cases, c.right, c.calls, 0, 0, 0, 0, 0],
-    );
-    io::write_all(1, b" calls right\n");
-}
-
-// The group's line is printed, and the next group begins.
-fn end_group(t: Tally, name: &[u8]) -> Tally {
-    let group = t.group;
-    report(name, group);
-    Tally {
-        group: zero(),
-        total: sum(t.total, group),
-    }
-}
-
-// The first case has number 1.
 fn with_case(t: Tally, record: &[u8]) -> Tally {
-    let total = t.total;
-    let before = sum(total, t.group);
-    let number = std::num::wrapping_add_usize(before.cases, 1);
-    Tally {
-        group: sum(t.group, run_case(number, record)),
-        total,
-    }
+    with_count(t, run_case(next_number(t), record))
 }
 
 // A line of the file: a comment, the end of a group, or a case.
@@ -60,17 +30,14 @@ fn run_record(t: Tally, record: &[u8]) -> Tally {
 }
 
 fn run(file: &[u8]) {
-    let mut t = Tally {
-        group: zero(),
-        total: zero(),
-    };
+    let mut t = no_cases();
     let mut at = 0;
     while at < file.len() {
         let e = find(file, at, b'\n');
         t = run_record(t, part(file, at, e));
         at = e + 1;
     }
-    report(b"all", t.total);
+    report_count(b"all", t.total);
 }
 
 fn main() {

@@ -4,27 +4,10 @@ use test_tools::buffers::byte_at;
 use test_tools::texts::find;
 use test_tools::texts::number;
 use test_tools::texts::part;
+use test_tools::texts::put;
+use test_tools::texts::put_all;
 ghost use Prim.Native.Nat.{_+_, _<_, _≤_};
 ghost use lib.ListN.{length};
-
-// Stores a byte, if there is room, and answers the place behind it.
-fn put(s: &mut [u8], at: usize, b: u8) -> usize {
-    if at < s.len() {
-        s[at] = b;
-        return at + 1;
-    }
-    at
-}
-
-pub fn put_all(s: &mut [u8], from: usize, text: &[u8]) -> usize {
-    let mut at = from;
-    let mut i = 0;
-    while i < text.len() {
-        at = put(s, at, byte_at(text, i));
-        i += 1;
-    }
-    at
-}
 
 // Stores a text so many times.
 fn put_times(s: &mut [u8], from: usize, text: &[u8], count: u32) -> usize {

@@ -15,11 +15,12 @@ use Rattle.printer.specs.Text.{natText, intText, softText, bitText, bits
 use Rattle.printer.proofs.Texts.{nat-small, nat-large, okPieces, ok-pieces, no-pieces}
 
 -- 10, 100, 1000, ..
-abbrev lim : ℕ → ℕ
+abbrev pub lim : ℕ → ℕ
 lim zero = 10
 lim (suc k) = 10 * lim k
 
-nat-length : (k n : ℕ) → n < lim k → length (natText n) ≤ suc k
+-- a number below 10 ^ (k + 1) has at most k + 1 digits: 10 with 32 bits, 20 with 64
+pub nat-length : (k n : ℕ) → n < lim k → length (natText n) ≤ suc k
 nat-length zero n h = omega (arith, ap length (nat-small n h))
 nat-length (suc k) n h = go (ltb n 10) refl (nat-length k (n / 10) (omega arith))
   where
@@ -27,13 +28,10 @@ nat-length (suc k) n h = go (ltb n 10) refl (nat-length k (n / 10) (omega arith)
     go true e f = omega (arith, ap length (nat-small n (ltb-true n 10 e)))
     go false e f = omega (arith, ap length (nat-large n (ltb-false n 10 e)), length-append (natText (n / 10)) ((48 + n % 10) ∷ []))
 
-nat-ten : (n : ℕ) → n < 2 ^ 32 → length (natText n) ≤ 10
-nat-ten n h = nat-length 9 n (omega arith)
-
 int-eleven : (z : ℤ) → mag z < 2 ^ 31 → length (intText z) ≤ 11
 unfolding intText
-int-eleven (pos n) h = let f : length (natText n) ≤ 10 = nat-ten n (omega arith) in omega arith
-int-eleven (negsuc n) h = let f : length (natText (suc n)) ≤ 10 = nat-ten (suc n) (omega arith) in omega arith
+int-eleven (pos n) h = let f : length (natText n) ≤ 10 = nat-length 9 n (omega arith) in omega arith
+int-eleven (negsuc n) h = let f : length (natText (suc n)) ≤ 10 = nat-length 9 (suc n) (omega arith) in omega arith
 
 pub soft-eleven : (z : ℤ) → mag z < 2 ^ 31 → length (softText (softOf z)) ≤ 11
 unfolding softText
@@ -69,7 +67,7 @@ pub ok-size : (cycles k : ℕ) (d : Decoded) → cycles < 2 ^ 32 → length (spa
 ok-size cycles k d h s =
     omega (
       arith,
-      nat-ten cycles h,
+      nat-length 9 cycles (omega (arith, h)),
       bits-length (d .hard),
       payload-length (d .payload),
       sym (ap length (ok-pieces cycles d)),
@@ -77,4 +75,4 @@ ok-size cycles k d h s =
     )
 
 pub no-size : (number : ℕ) → number < 2 ^ 32 → length (noText number) ≤ 14
-no-size number h = omega (arith, nat-ten number h, sym (ap length (no-pieces number)), length-append (natText number) (10 ∷ []))
+no-size number h = omega (arith, nat-length 9 number (omega (arith, h)), sym (ap length (no-pieces number)), length-append (natText number) (10 ∷ []))

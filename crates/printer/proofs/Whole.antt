@@ -2,7 +2,7 @@
 use mathlib.Core.Path.{_≡_, refl, sym, ap, ap₂, _∙_}
 use mathlib.Core.Bool.{Bool, true, false}
 use mathlib.Core.List.{List, [], _∷_, map}
-use Prim.Native.Nat.{ℕ, suc, _+_, _≤_, _<_}
+use Prim.Native.Nat.{ℕ, suc, _+_, _≤_, _<_, min}
 use native.Mathlib.Omega.{arith}
 use lib.Dec.{leb}
 use lib.ListN.{length, take, drop, take-append-drop}
@@ -55,3 +55,11 @@ pub softs-back : (ss : List Soft) → ((k : ℕ) → k < length ss → Under lim
 softs-back [] h = refl
 softs-back (s ∷ ss) h =
     ap₂ (λ (x : Soft) (l : List Soft). x ∷ l) (soft-word limit s (omega arith) (h 0 (omega arith))) (softs-back ss (λ k l. h (suc k) (omega arith)))
+
+-- the same text, with more room
+pub reprinted : {t t′ o o₁ : List ℕ} {j most most′ : ℕ} → t ≡ t′ → most ≤ most′ → Printed t most o o₁ j → Printed t′ most′ o o₁ j
+reprinted {t} {t′} {o} e h p = record {
+  bytes = p .bytes ∙ ap (λ (x : List ℕ). over (take (length o) x) o) e;
+  ends = p .ends ∙ ap (λ (x : List ℕ). min (length x) (length o)) e;
+  size = omega (arith, p .size, ap length e);
+}

@@ -10,7 +10,7 @@ ghost use Rattle.printer.specs.Put.{Put, Printed};
 ghost use Rattle.model.specs.Soft.{softOf};
 
 // One byte, if there is room. Each function answers where its text ends.
-fn put_byte(b: u8, out: &mut [u8], at: usize) -> usize
+pub fn put_byte(b: u8, out: &mut [u8], at: usize) -> usize
     ensures { λ r. ⌜ Put (b ∷ []) (now (out .entry)) at (now (out .exit)) r ⌝ }
 {
     if at < out.len() {
@@ -29,14 +29,15 @@ fn put_three(a: u8, b: u8, c: u8, out: &mut [u8], at: usize) -> usize
     put_byte(c, out, q)
 }
 
-fn glyph(d: u32) -> u8
+fn glyph(d: u64) -> u8
     requires { ⌜ d < 10 ⌝ }
     ensures { λ r. ⌜ r ≡ 48 + d ⌝ }
 {
     b'0' + (d as u8)
 }
 
-fn put_digits(n: u32, out: &mut [u8], at: usize) -> usize
+// A number in decimal.
+pub fn put_digits(n: u64, out: &mut [u8], at: usize) -> usize
     ensures { λ r. ⌜ Put (natText n) (now (out .entry)) at (now (out .exit)) r ⌝ }
 {
     if n < 10 {
@@ -61,7 +62,7 @@ fn magnitude(z: i32) -> u32
 fn put_decimal(z: i32, out: &mut [u8], at: usize) -> usize
     ensures { λ r. ⌜ Put (intText z) (now (out .entry)) at (now (out .exit)) r ⌝ }
 {
-    let n = magnitude(z);
+    let n = magnitude(z) as u64;
     if z < 0 {
         let e = put_byte(b'-', out, at);
         return put_digits(n, out, e);
@@ -130,7 +131,7 @@ fn put_head(a: u8, b: u8, n: u32, out: &mut [u8]) -> usize
     ensures { λ r. ⌜ Put (a ∷ b ∷ 32 ∷ natText n) (now (out .entry)) 0 (now (out .exit)) r ⌝ }
 {
     let e = put_three(a, b, b' ', out, 0);
-    put_digits(n, out, e)
+    put_digits(n as u64, out, e)
 }
 
 // The line of an accepted decode, by the words of its soft values, from the buffer's start on; answers its length.

@@ -2,7 +2,10 @@
 use mathlib.Core.Path.{_≡_}
 use mathlib.Core.List.{List}
 use Prim.Native.Nat.{ℕ, _+_, _*_, _^_}
+use lib.ListN.{length}
+use Rattle.model.specs.Lists.{over}
 use Rattle.model.specs.Refusals.{accepted, planNumber, planCounts, planCycles, checkNumber, checkCycles, decodeNumber, decodeCycles, decodeCheck}
+use Rattle.replay.specs.Program.{captureText, totalsNumber}
 use Rattle.decode.specs.Calls.{Lent, Given, callOf, Left}
 
 -- a check of a plan: number + 256 × cycles of one sweep
@@ -21,3 +24,8 @@ hostCounts mask room counts = accepted (planNumber mask room) (planCounts mask r
 pub record DecodeAnswer (g : Given) (after : Lent) (r : ℕ) : Type 0 where
   pub answer-is : r ≡ decodeNumber (callOf g) + 256 * decodeCycles (callOf g) + 2 ^ 40 * decodeCheck (callOf g)
   pub left : Left g after
+
+-- a replay: number + 256 × length of the text; a refused one leaves the buffer
+pub record ReplayAnswer (bytes out after : List ℕ) (r : ℕ) : Type 0 where
+  pub answer-is : let n : ℕ = totalsNumber bytes (length out) in r ≡ n + 256 * accepted n (length (captureText bytes)) 0
+  pub left : after ≡ accepted (totalsNumber bytes (length out)) (over (captureText bytes) out) out

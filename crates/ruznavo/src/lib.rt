@@ -4,6 +4,7 @@ use encode::encode;
 use kinds::KINDS;
 use planner::plan_mask;
 use plans::check_plan;
+use replay::replay_totals;
 use samples::Channel;
 use samples::samples_to_llrs;
 use transform::transform;
@@ -12,7 +13,7 @@ ghost use lib.ListN.{length};
 ghost use Rattle.model.specs.Refusals.{samplesNumber, samplesLlrs, encodeNumber, encodeWord, planBytes};
 ghost use Rattle.transform.specs.Calls.{transformNumber, transformBytes};
 ghost use Rattle.decode.specs.Calls.{lent, given};
-ghost use Rattle.ruznavo.specs.Answers.{CheckAnswer, PlanAnswer, hostCounts, DecodeAnswer};
+ghost use Rattle.ruznavo.specs.Answers.{CheckAnswer, PlanAnswer, hostCounts, DecodeAnswer, ReplayAnswer};
 
 // Samples to LLRs, at the noise variance. The answer is the number.
 #[no_mangle]
@@ -92,4 +93,13 @@ pub extern "C" fn ruznavo_decode(
 {
     let d = decode(mask, plan, sweeps, llrs, soft, hard, payload, work);
     d.number as u64 + 256 * d.cycles as u64 + 1099511627776 * d.check as u64
+}
+
+// A capture replayed: the text of its totals goes to the front of out. The answer is the number + 256 × the length of the text.
+#[no_mangle]
+pub extern "C" fn ruznavo_replay(capture: &[u8], out: &mut [u8]) -> u64
+    ensures { λ r. ⌜ ReplayAnswer (now (capture .entry)) (now (out .entry)) (now (out .exit)) r ⌝ }
+{
+    let r = replay_totals(capture, out);
+    r.number as u64 + 256 * r.length as u64
 }

@@ -73,7 +73,7 @@ pub fn next(x: u32) -> u32 {
 }
 
 // A seed of its own for each pair of small numbers.
-fn seed_of(a: u32, b: u32) -> u32 {
+pub fn seed_of(a: u32, b: u32) -> u32 {
     next(next(next(next(2463534242 ^ (a << 20)) ^ b)))
 }
 

@@ -1,4 +1,6 @@
-// Parts of texts and the numbers in them. A place outside a text gives an empty part, so that no caller has an index to prove.
+// Parts of texts, the numbers in them, and texts put one behind another. A place outside a text gives an empty part, and what has no room
+// is left out, so that no caller has an index to prove.
+use crate::buffers::byte_at;
 ghost use Prim.Native.Nat.{_≤_, max};
 ghost use lib.ListN.{length};
 
@@ -46,4 +48,24 @@ pub fn number(s: &[u8]) -> u32 {
         i += 1;
     }
     n
+}
+
+// Stores a byte, if there is room, and answers the place behind it.
+pub fn put(s: &mut [u8], at: usize, b: u8) -> usize {
+    if at < s.len() {
+        s[at] = b;
+        return at + 1;
+    }
+    at
+}
+
+// Stores a text.
+pub fn put_all(s: &mut [u8], from: usize, text: &[u8]) -> usize {
+    let mut at = from;
+    let mut i = 0;
+    while i < text.len() {
+        at = put(s, at, byte_at(text, i));
+        i += 1;
+    }
+    at
 }

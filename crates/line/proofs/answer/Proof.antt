@@ -1,6 +1,6 @@
 -- `line::answer` meets its contract: a refused line is answered by its number, and an accepted one by its decode. Assumes nothing.
 use native.Mathlib.Omega.{arith}
-use Rattle.line.proofs.Decodes.{reprinted}
+use Rattle.printer.proofs.Whole.{reprinted}
 use Rattle.line.proofs.Replies.{refused-text, long-enough, Accepted, accept, mask-count, llrs-count, line-fit, accepted-text}
 use borrow.Author.Needs.{needs}
 use Rattle.line.proofs.answer.Statement.{statement}

@@ -5,7 +5,8 @@ use native.Mathlib.Omega.{arith}
 use lib.ListN.{length}
 use lib.Seq.{length-take-le}
 use Rattle.model.proofs.Payload.{unfrozen-most}
-use Rattle.line.proofs.Decodes.{reprinted, room-enough, text-is}
+use Rattle.printer.proofs.Whole.{reprinted}
+use Rattle.line.proofs.Decodes.{room-enough, text-is}
 use borrow.Author.Needs.{needs}
 use Rattle.line.proofs.answer_along.Statement.{statement}
 use Rattle.line.proofs.answer_along.Tie as tie

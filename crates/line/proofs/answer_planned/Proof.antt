@@ -7,7 +7,8 @@ use lib.ListN.{length}
 use lib.Seq.{length-take-le}
 use Rattle.planner.proofs.Results.{front, planner-result}
 use Rattle.line.specs.Program.{decodeText}
-use Rattle.line.proofs.Decodes.{reprinted, plan-accepted}
+use Rattle.printer.proofs.Whole.{reprinted}
+use Rattle.line.proofs.Decodes.{plan-accepted}
 use borrow.Author.Needs.{needs}
 use Rattle.line.proofs.answer_planned.Statement.{statement}
 use Rattle.line.proofs.answer_planned.Tie as tie

@@ -11,11 +11,8 @@ Inv-loop file t₀ at₀ t5 t at = at ≤ length file + 1
 abbrev μ-loop : tie.MeasureT-loop
 μ-loop file t₀ at₀ t5 t at = length file - at
 
-zero-requires : tie.Need-zero-requires Inv-loop μ-loop
-zero-requires c κs = search needs
-
-zero-requires-2 : tie.Need-zero-requires-2 Inv-loop μ-loop
-zero-requires-2 c κs = search needs
+no-cases-requires : tie.Need-no-cases-requires Inv-loop μ-loop
+no-cases-requires c κs = search needs
 
 loop-holds : tie.Need-loop-holds Inv-loop μ-loop
 loop-holds c = search needs
@@ -38,11 +35,11 @@ loop-less c = search needs
 loop-again : tie.Need-loop-again Inv-loop μ-loop
 loop-again c = search needs
 
-slice-aggregate-report : tie.Need-slice-aggregate-report Inv-loop μ-loop
-slice-aggregate-report c = search needs
+slice-aggregate-report-count : tie.Need-slice-aggregate-report-count Inv-loop μ-loop
+slice-aggregate-report-count c = search needs
 
-report-requires : tie.Need-report-requires Inv-loop μ-loop
-report-requires c κs = search needs
+report-count-requires : tie.Need-report-count-requires Inv-loop μ-loop
+report-count-requires c κs = search needs
 
 returns : tie.Need-returns Inv-loop μ-loop
 returns c = search needs
@@ -53,8 +50,7 @@ run-spec =
     (tie.spec
     Inv-loop
     μ-loop
-    zero-requires
-    zero-requires-2
+    no-cases-requires
     loop-holds
     find-requires
     part-requires
@@ -62,6 +58,6 @@ run-spec =
     add-at
     loop-less
     loop-again
-    slice-aggregate-report
-    report-requires
+    slice-aggregate-report-count
+    report-count-requires
     returns)

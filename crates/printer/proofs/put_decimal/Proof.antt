@@ -11,6 +11,9 @@ use Rattle.printer.proofs.put_decimal.Tie as tie
 magnitude-requires : tie.Need-magnitude-requires
 magnitude-requires c κs = search needs
 
+cast-n : tie.Need-cast-n
+cast-n c = search needs
+
 put-byte-requires : tie.Need-put-byte-requires
 put-byte-requires c κs = search needs
 
@@ -49,6 +52,7 @@ put-decimal-spec =
     tie.close
     (tie.spec
     magnitude-requires
+    cast-n
     put-byte-requires
     put-digits-requires
     same-length

@@ -1,25 +1,25 @@
--- `line_test::texts::put_all` is safe and ends. The loop's invariant: i is at most the text's length. Assumes nothing.
+-- `replay_test::texts::put_piece` is safe and ends. The loop's invariant: i is at most the count. Assumes nothing.
 use mathlib.Core.Path.{_≡_}
 use Prim.Native.Nat.{_-_, _≤_}
 use lib.ListN.{length}
 use borrow.Author.Needs.{needs}
-use Rattle.line_test.proofs.texts.put_all.Statement.{statement}
-use Rattle.line_test.proofs.texts.put_all.Tie as tie
+use Rattle.replay_test.proofs.texts.put_piece.Statement.{statement}
+use Rattle.replay_test.proofs.texts.put_piece.Tie as tie
 
 abbrev Inv-loop : tie.InvT-loop
-Inv-loop s₀ from text at₀ i₀ s at i = (i ≤ length text) × (length s ≡ length s₀)
+Inv-loop out₀ from s p digits at₀ i₀ out at i = (i ≤ p .count) × (length out ≡ length out₀)
 
 abbrev μ-loop : tie.MeasureT-loop
-μ-loop s₀ from text at₀ i₀ s at i = length text - i
+μ-loop out₀ from s p digits at₀ i₀ out at i = p .count - i
+
+part-requires : tie.Need-part-requires Inv-loop μ-loop
+part-requires c κs = search needs
 
 loop-holds : tie.Need-loop-holds Inv-loop μ-loop
 loop-holds c = search needs
 
-byte-at-requires : tie.Need-byte-at-requires Inv-loop μ-loop
-byte-at-requires c κs = search needs
-
-put-requires : tie.Need-put-requires Inv-loop μ-loop
-put-requires c κs = search needs
+put-digits-requires : tie.Need-put-digits-requires Inv-loop μ-loop
+put-digits-requires c κs = search needs
 
 add-i : tie.Need-add-i Inv-loop μ-loop
 add-i c = search needs
@@ -36,15 +36,15 @@ same-length c = search needs
 returns : tie.Need-returns Inv-loop μ-loop
 returns c = search needs
 
-pub put-all-spec : {M : Type 1} → statement M
-put-all-spec =
+pub put-piece-spec : {M : Type 1} → statement M
+put-piece-spec =
     tie.close
     (tie.spec
     Inv-loop
     μ-loop
+    part-requires
     loop-holds
-    byte-at-requires
-    put-requires
+    put-digits-requires
     add-i
     loop-less
     loop-again
