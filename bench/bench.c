@@ -2,16 +2,15 @@
 //   bench             prints the tables of times
 //   bench FILE        the same, with the instructions that FILE lists, in the order of `bench count`
 //   bench count       calls each routine once for each frame inside count_here, for a profiler that counts there
-#define _POSIX_C_SOURCE 200809L
 #include "baseline.h"
 #include "channel.h"
 #include "refusals.h"
+#include "replay.h"
 #include "ruznavo.h"
 
 #include <stdio.h>
 #include <stdlib.h>
 #include <string.h>
-#include <time.h>
 
 // Times are over many different frames, so that no branch is foretold from the frame before; instructions over a few.
 enum { FRAMES = 256, COUNTED = 16, LIBRARIES = 3, KINDS = RUZNAVO_KINDS };
@@ -141,12 +140,6 @@ static void compare(const test_case *c) {
             if (written[which].answer & 255) fail(c, "turned down");
             if (memcmp(&written[which], &written[PROVED], sizeof written[which])) fail(c, "the libraries differ");
         }
-}
-
-static double now(void) {
-    struct timespec t;
-    clock_gettime(CLOCK_MONOTONIC, &t);
-    return (double)t.tv_sec * 1e9 + (double)t.tv_nsec;
 }
 
 // For each library the nanoseconds of a call, from the fastest of many passes over all frames.
@@ -286,6 +279,21 @@ static void growth_table(void) {
     }
 }
 
+// Captures with as many frames as they hold, and the decodes of those frames alone.
+static void replay_table(void) {
+    if (counting) return;
+    puts("\nReplay of a full capture, rate 1/2, planner's plan, proved library\n"
+         "                                         ns a frame\n"
+         "N                sweeps   frames    replay   decodes   replay/decodes");
+    for (int i = 0; i < 4; i++) {
+        test_case c = {DECODE, i < 2 ? 1024 : 2, i < 2 ? 512 : 1, i % 2 ? 4 : 1, PLANNERS};
+        prepare(&c);
+        replay_times t = time_replay(mask, c.n, (unsigned)c.sweeps, llrs[0], MAX_N, FRAMES);
+        printf("%-16zu %6zu %8zu %9.1f %9.1f %16.2f\n", c.n, c.sweeps, t.frames, t.replay, t.decodes,
+               t.replay / t.decodes);
+    }
+}
+
 int main(int count, char **words) {
     counting = count == 2 && !strcmp(words[1], "count");
     if (count == 2 && !counting && !(instructions = fopen(words[1], "r"))) return perror(words[1]), 2;
@@ -297,5 +305,6 @@ int main(int count, char **words) {
     other_table();
     word_table();
     growth_table();
+    replay_table();
     return 0;
 }

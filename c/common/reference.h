@@ -12,6 +12,9 @@
 
 enum { REF_MAX_N = 1024, REF_MAX_STAGE = 10, REF_MAX_SWEEPS = 8, REF_KINDS = 8 };
 
+/* Of captures: the drains, and the room that is asked for the text of their totals. */
+enum { REF_DRAINS = 64, REF_MAX_REPLAY = 6720 };
+
 /* n of N = 2^n, from 1 to 10; 0 of any other number. */
 int ref_exponent(size_t N);
 
@@ -46,5 +49,8 @@ int ref_decode(const uint8_t *mask, size_t N, const uint8_t *plan, size_t plan_l
                const int16_t *llrs, size_t llrs_length, int32_t *soft, size_t soft_room, uint8_t *hard,
                size_t hard_room, uint8_t *payload, size_t payload_room, int32_t *work, size_t words, uint32_t *cycles,
                int *check);
+
+/* The text goes to the front of out; `written` is its length. */
+int ref_replay(const uint8_t *capture, size_t length, uint8_t *out, size_t room, size_t *written);
 
 #endif

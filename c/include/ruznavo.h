@@ -48,10 +48,12 @@
  *
  * Answers. Each call answers one number; the functions below take it apart. The refusal number is 0 if the call was
  * accepted. A refused call answers its number with every other result 0 and leaves every buffer as it was, the
- * workspace too. If several causes apply, the lowest number of those that the call tests is answered.
+ * workspace too. If several causes apply, the lowest number of those that the call tests is answered; a replay tests in
+ * an order of its own.
  *
- * Stack. At N = 1024 the decoder used less than 5 KB, planner and plan check less than 2 KB each, the others less than
- * 200 bytes. `make -C c` measures this (c/test/stack.c), and fails where a call uses more.
+ * Stack. At N = 1024 a replay used less than 80 KB, since it holds a decode's buffers, the decoder less than 5 KB,
+ * planner and plan check less than 2 KB each, the others less than 200 bytes.
+ * `make -C c` measures this (c/test/stack.c), and fails where a call uses more.
  */
 #ifndef RUZNAVO_H
 #define RUZNAVO_H
@@ -65,14 +67,18 @@ extern "C" {
 
 /* The version of this header and of the library that it belongs to. The shared object's name has the first number. */
 #define RUZNAVO_VERSION_MAJOR 0
-#define RUZNAVO_VERSION_MINOR 4
+#define RUZNAVO_VERSION_MINOR 5
 #define RUZNAVO_VERSION_PATCH 0
-#define RUZNAVO_VERSION "0.4.0"
+#define RUZNAVO_VERSION "0.5.0"
 
 #define RUZNAVO_MIN_N 2
 #define RUZNAVO_MAX_N 1024
 #define RUZNAVO_MAX_SWEEPS 8
 #define RUZNAVO_MAX_LLR 32767
+
+/* Bytes of the longest capture; and so many that every text of a replay has room. */
+#define RUZNAVO_MAX_CAPTURE 65536
+#define RUZNAVO_MAX_REPLAY 6720
 
 /* The soft value "certain". */
 #define RUZNAVO_CERTAIN INT32_MAX
@@ -102,7 +108,7 @@ enum {
     RUZNAVO_KINDS
 };
 
-/* Refusal numbers. The last is the line program's: no call here answers it. */
+/* Refusal numbers. 13 stands in the line program's text alone; no call answers it. */
 enum {
     RUZNAVO_OK = 0,
     RUZNAVO_BAD_LENGTH = 1,    /* mask length, or number of samples or bits, is not a power of two from 2 to 1024 */
@@ -117,7 +123,9 @@ enum {
     RUZNAVO_BAD_PAYLOAD = 10,  /* a payload byte above 1 */
     RUZNAVO_SHORT_OUTPUT = 11, /* an output is too short */
     RUZNAVO_SHORT_WORK = 12,   /* the workspace is too short */
-    RUZNAVO_BAD_LINE = 13      /* the line is malformed */
+    RUZNAVO_BAD_LINE = 13,     /* the line is malformed */
+    RUZNAVO_BAD_CAPTURE = 14,  /* a capture's trailer or lengths do not fit, or it has more than 65536 bytes */
+    RUZNAVO_BAD_DRAIN = 15     /* a drain number above 63 */
 };
 
 /* A refusal number's cause in words, for messages. */
@@ -137,6 +145,8 @@ static inline const char *ruznavo_number_name(unsigned number) {
     case RUZNAVO_SHORT_OUTPUT: return "output too short";
     case RUZNAVO_SHORT_WORK: return "workspace too short";
     case RUZNAVO_BAD_LINE: return "line malformed";
+    case RUZNAVO_BAD_CAPTURE: return "capture's trailer or lengths do not fit, or more than 65536 bytes";
+    case RUZNAVO_BAD_DRAIN: return "drain number above 63";
     default: return "unknown number";
     }
 }
@@ -149,6 +159,9 @@ static inline unsigned ruznavo_number(uint64_t answer) { return (unsigned)(answe
  * latency model, and not this processor's.
  */
 static inline uint32_t ruznavo_cycles(uint64_t answer) { return (uint32_t)(answer >> 8); }
+
+/* The length of the text that a replay has written. */
+static inline size_t ruznavo_text_length(uint64_t answer) { return (size_t)(answer >> 8); }
 
 /*
  * The frozen check of a decode: 1 exactly if the decoded frozen bits are all 0, that is, if the hard word is a word of
@@ -211,6 +224,18 @@ uint64_t ruznavo_check_plan(const uint8_t *mask, size_t mask_length, const uint8
 uint64_t ruznavo_decode(const uint8_t *mask, size_t mask_length, const uint8_t *plan, size_t plan_length, size_t sweeps,
                         const int16_t *llrs, size_t llrs_length, int32_t *soft, size_t soft_length, uint8_t *hard,
                         size_t hard_length, uint8_t *payload, size_t payload_length, int32_t *work, size_t work_length);
+
+/*
+ * Replays a capture with the planner's plan of its mask, and writes the totals of its drains as text: a line for each
+ * drain that occurs, in rising order, with drain, frames, frames whose frozen check is 1, hard bits that differ from the
+ * LLR's sign (an LLR of 0 counts as bit 0) and cycles, in decimal, separated by single spaces and ended by a line feed.
+ *   capture  frames, one after the other; then the mask, N bytes; then 16 bytes: 44 52 4E 31 (hexadecimal), the mask's
+ *            offset, the first frame's offset, which is 0, and the number of frames, each of 32 bits, low byte first. A
+ *            frame is a drain number below 64, a sweep count and N LLRs, each of 16 bits, low byte first
+ *   out      RUZNAVO_MAX_REPLAY bytes or more; the text goes to its front, without a 0 at the end
+ * Answers the number, 0 or the first of 14, 1 and 2, frame by frame 15, 4 and 7, and last 11; and the text's length.
+ */
+uint64_t ruznavo_replay(const uint8_t *capture, size_t capture_length, uint8_t *out, size_t out_length);
 
 #ifdef __cplusplus
 }

@@ -11,7 +11,7 @@
 #include <stddef.h>
 #include <stdint.h>
 
-enum { GUARDED_BYTES = 16 * 4096, GUARD_BYTES = 256 };
+enum { GUARDED_BYTES = 18 * 4096, GUARD_BYTES = 256 };
 
 struct guarded {
     const char *name;

@@ -4,6 +4,7 @@
  * a call uses more than ruznavo.h says, or is refused.
  */
 #define _DEFAULT_SOURCE
+#include "captures.h"
 #include "codes.h"
 #include "random.h"
 #include "ruznavo.h"
@@ -22,6 +23,8 @@ static float samples[N];
 static int16_t llrs[N];
 static int32_t soft[N], work[RUZNAVO_MAX_WORK_WORDS];
 static uint32_t counts[RUZNAVO_KINDS];
+static struct capture capture;
+static uint8_t text[RUZNAVO_MAX_REPLAY];
 static uint64_t answer;
 
 static void none(void) { answer = 0; }
@@ -34,6 +37,7 @@ static void call_decode(void) {
     answer = ruznavo_decode(mask, N, plan, 2 * N, RUZNAVO_MAX_SWEEPS, llrs, N, soft, N, bits, N, payload, N, work,
                             RUZNAVO_MAX_WORK_WORDS);
 }
+static void call_replay(void) { answer = ruznavo_replay(capture.bytes, capture.length, text, sizeof text); }
 
 static size_t bytes_used(void (*call)(void)) {
     memset(stack, PATTERN, STACK);
@@ -68,5 +72,8 @@ int main(void) {
                  measure("transform", call_transform, 200) + measure("plan", call_plan, 2000);
     leaf_plan(plan, N);
     failed += measure("check_plan", call_check_plan, 2000) + measure("decode", call_decode, 5000);
+    capture_frame(&capture, 63, RUZNAVO_MAX_SWEEPS, llrs, N);
+    capture_end(&capture, mask, N);
+    failed += measure("replay", call_replay, 80000);
     return failed != 0;
 }

@@ -7,6 +7,7 @@
  * A difference prints seed and case number and exits 1; `test SEED 1 CASE` runs that case again.
  */
 #define _DEFAULT_SOURCE
+#include "captures.h"
 #include "codes.h"
 #include "guarded.h"
 #include "random.h"
@@ -23,8 +24,9 @@
 /* The longest input that a damaged call has. */
 enum { LONGEST = 4 * REF_MAX_N };
 
-enum call { SAMPLES, ENCODE, TRANSFORM, PLAN, CHECK_PLAN, DECODE, CALLS };
-static const char *const call_names[CALLS] = {"samples", "encode", "transform", "plan", "check_plan", "decode"};
+enum call { SAMPLES, ENCODE, TRANSFORM, PLAN, CHECK_PLAN, DECODE, REPLAY, CALLS };
+static const char *const call_names[CALLS] = {"samples",    "encode", "transform", "plan",
+                                              "check_plan", "decode", "replay"};
 
 /* The numbers that each call can answer, as bits. */
 static const unsigned answers[CALLS] = {
@@ -34,18 +36,20 @@ static const unsigned answers[CALLS] = {
     1u << 0 | 1u << 1 | 1u << 2 | 1u << 11,
     1u << 0 | 1u << 1 | 1u << 2 | 1u << 5 | 1u << 6,
     0xFFu | 1u << 11 | 1u << 12,
+    1u << 0 | 1u << 1 | 1u << 2 | 1u << 4 | 1u << 7 | 1u << 11 | 1u << 14 | 1u << 15,
 };
 
 static uint64_t seed = 1, case_number;
-static uint64_t number_seen[CALLS][13], stage_seen[CALLS][REF_MAX_STAGE + 1], sweeps_seen[REF_MAX_SWEEPS + 1],
+enum { NUMBERS = RUZNAVO_BAD_DRAIN + 1 };
+static uint64_t number_seen[CALLS][NUMBERS], stage_seen[CALLS][REF_MAX_STAGE + 1], sweeps_seen[REF_MAX_SWEEPS + 1],
     check_seen[2];
 
 /* Nodes of a kind by their stage, in accepted decodes: those that the plan goes below, and those that it cuts. */
 static uint64_t kind_seen[2][REF_KINDS][REF_MAX_STAGE + 1];
 
-enum slot { MASK, PLAN_BYTES, LLRS, SOFT, HARD, PAYLOAD, WORK, SAMPLE_VALUES, MARKS, WORD, COUNTS, SLOTS };
-static const char *const slot_names[SLOTS] = {"mask", "plan",    "llrs",  "soft", "hard",  "payload",
-                                              "work", "samples", "marks", "word", "counts"};
+enum slot { MASK, PLAN_BYTES, LLRS, SOFT, HARD, PAYLOAD, WORK, SAMPLE_VALUES, MARKS, WORD, COUNTS, CAPTURE, TEXT, SLOTS };
+static const char *const slot_names[SLOTS] = {"mask",    "plan",  "llrs", "soft",   "hard",    "payload", "work",
+                                              "samples", "marks", "word", "counts", "capture", "text"};
 static struct guarded slots[SLOTS];
 
 static void stop(const char *what) {
@@ -76,6 +80,7 @@ static void lock(const enum slot *inputs, size_t count, int writable) {
     for (size_t i = 0; i < count; i++) guarded_writable(&slots[inputs[i]], writable);
 }
 
+/* Of a replay `cycles` is the length of its text, which stands in the same place. */
 static void compare(enum call call, uint64_t answer, int number, uint32_t cycles, int check, const enum slot *used,
                     size_t count) {
     uint64_t expected = (uint64_t)number + 256 * (uint64_t)cycles + ((uint64_t)check << 40);
@@ -431,6 +436,85 @@ static void decode_case(struct random *r) {
     count_kinds(c.mask, c.mask_length, p.bytes, 1, ref_exponent(c.mask_length));
 }
 
+/* ---- captures */
+
+/* Frames of one code: few, or as many as a capture holds, or one more. */
+static void random_capture(struct random *r, const struct code *c, struct capture *all) {
+    int16_t llrs[LONGEST];
+    size_t most = (RUZNAVO_MAX_CAPTURE - CAPTURE_TRAILER - c->N) / capture_frame_size(c->N);
+    size_t frames = random_chance(r, 0.01) ? most + random_below(r, 2) : random_below(r, 6);
+    unsigned drains = (unsigned)random_from(r, 1, 64);
+    all->frames = all->length = 0;
+    while (all->frames < frames) {
+        random_llrs(r, c, llrs);
+        capture_frame(all, (unsigned)random_below(r, drains), (unsigned)random_from(r, 1, 2), llrs, c->N);
+    }
+    capture_end(all, c->mask, c->N);
+}
+
+/* A number of 16 bits, put somewhere into a frame: as its drain, its sweeps or an LLR. */
+static void damage_frame(struct random *r, const struct code *c, struct capture *all) {
+    static const uint16_t numbers[] = {0, 8, 9, 63, 64, 256, 0x8000, 0xFFFF};
+    uint16_t number = numbers[random_below(r, sizeof numbers / sizeof *numbers)];
+    if (all->frames == 0) return;
+    size_t at = random_below(r, all->frames) * capture_frame_size(c->N) + 2 * random_below(r, 3);
+    all->bytes[at] = (uint8_t)number;
+    all->bytes[at + 1] = (uint8_t)(number >> 8);
+}
+
+/* Zeros put in somewhere before the trailer. */
+static void lengthen(struct random *r, struct capture *all) {
+    size_t at = random_below(r, all->length - CAPTURE_TRAILER + 1), more = random_from(r, 1, 2000);
+    memmove(all->bytes + at + more, all->bytes + at, all->length - at);
+    memset(all->bytes + at, 0, more);
+    all->length += more;
+}
+
+static void damage_capture(struct random *r, const struct code *c, struct capture *all) {
+    uint8_t *trailer = all->bytes + all->length - CAPTURE_TRAILER;
+    switch (random_below(r, 6)) {
+    case 0: all->length = other_length(r, all->length < LONGEST ? all->length : LONGEST); break;
+    case 1: trailer[random_below(r, CAPTURE_TRAILER)] ^= (uint8_t)(1u << random_below(r, 8)); break;
+    case 2: damage_byte(r, trailer - c->N, c->N, 1); break;
+    case 3: lengthen(r, all); break;
+    default: damage_frame(r, c, all);
+    }
+}
+
+/* A capture whose mask mostly has a length that no code has. */
+static void odd_capture(struct random *r, struct code *c, struct capture *all) {
+    int16_t llrs[LONGEST] = {0};
+    size_t frames = random_below(r, 3);
+    c->N = other_length(r, 4);
+    memset(c->mask, 0, c->N);
+    all->frames = all->length = 0;
+    while (all->frames < frames) capture_frame(all, 0, 1, llrs, c->N);
+    capture_end(all, c->mask, c->N);
+}
+
+static void replay_case(struct random *r) {
+    static struct code c;
+    static struct capture all;
+    random_code(r, &c);
+    if (random_chance(r, 0.1)) {
+        odd_capture(r, &c, &all);
+    } else {
+        random_capture(r, &c, &all);
+        if (random_chance(r, 0.5)) damage_capture(r, &c, &all);
+    }
+    size_t room = enough(r, RUZNAVO_MAX_REPLAY), written;
+    if (random_chance(r, 0.2)) room = random_chance(r, 0.5) ? RUZNAVO_MAX_REPLAY - 1 : random_below(r, RUZNAVO_MAX_REPLAY);
+    place(r, CAPTURE, all.length, 1, all.bytes);
+    place(r, TEXT, room, 1, NULL);
+    static const enum slot used[] = {CAPTURE, TEXT};
+    lock(used, 1, 0);
+    uint64_t answer = ruznavo_replay(buffer(CAPTURE), all.length, buffer(TEXT), room);
+    lock(used, 1, 1);
+    int number = ref_replay(twin(CAPTURE), all.length, twin(TEXT), room, &written);
+    compare(REPLAY, answer, number, (uint32_t)written, 0, used, 2);
+    if (number == 0) stage_seen[REPLAY][ref_exponent(c.N)]++;
+}
+
 /* ---- document 01's frames, so that library and reference cannot be wrong alike there */
 
 struct frame {
@@ -511,10 +595,10 @@ static void run_frames(void) {
 
 /* Every number has a name of its own, and any other has the same one. */
 static void run_names(void) {
-    for (unsigned a = 0; a <= RUZNAVO_BAD_LINE + 1; a++)
+    for (unsigned a = 0; a <= RUZNAVO_BAD_DRAIN + 1; a++)
         for (unsigned b = 0; b < a; b++)
             if (strcmp(ruznavo_number_name(a), ruznavo_number_name(b)) == 0) stop("two numbers of one name");
-    if (strcmp(ruznavo_number_name(RUZNAVO_BAD_LINE + 1), ruznavo_number_name(255))) stop("an unknown number's name");
+    if (strcmp(ruznavo_number_name(RUZNAVO_BAD_DRAIN + 1), ruznavo_number_name(255))) stop("an unknown number's name");
 }
 
 static void run_header(void) {
@@ -532,7 +616,7 @@ static void run_header(void) {
 static void report(void) {
     for (int call = 0; call < CALLS; call++) {
         printf("%-10s", call_names[call]);
-        for (int number = 0; number <= 12; number++)
+        for (int number = 0; number < NUMBERS; number++)
             if (number_seen[call][number]) printf("  %d: %" PRIu64, number, number_seen[call][number]);
         printf("\n");
     }
@@ -542,7 +626,7 @@ static void report(void) {
 /* A run of some length has tried every number that a call can answer, every N, every sweep count and both checks. */
 static void all_tried(void) {
     for (int call = 0; call < CALLS; call++) {
-        for (int number = 0; number <= 12; number++)
+        for (int number = 0; number < NUMBERS; number++)
             if ((number_seen[call][number] > 0) != (answers[call] >> number & 1))
                 stop("a number not tried, or not the call's");
         for (int n = 1; n <= REF_MAX_STAGE; n++)
@@ -565,8 +649,8 @@ static void all_kinds_tried(void) {
 }
 
 int main(int argc, char **argv) {
-    static void (*const run[CALLS])(struct random *) = {samples_case, encode_case,     transform_case,
-                                                        plan_case,    check_plan_case, decode_case};
+    static void (*const run[CALLS])(struct random *) = {samples_case,    encode_case, transform_case, plan_case,
+                                                        check_plan_case, decode_case, replay_case};
     uint64_t cases = argc > 2 ? strtoull(argv[2], NULL, 10) : 50000, first = argc > 3 ? strtoull(argv[3], NULL, 10) : 0;
     if (argc > 1) seed = strtoull(argv[1], NULL, 10);
     signal(SIGSEGV, fault);
