@@ -1,4 +1,4 @@
--- Theorems.antt states what the others lead to; Frames.antt has document 01's nine frames.
+-- Theorems.antt states what the others lead to; Frames.antt has document 01's nine frames, MaskExamples.antt small masks.
 pub mod Lists
 pub mod Algebra
 pub mod Transform
@@ -20,5 +20,10 @@ pub mod FormerCounts
 pub mod CountedCycles
 pub mod Scale
 pub mod Captures
+pub mod Sums
+pub mod RowWeights
+pub mod Ranks
+pub mod RankOrder
 pub mod Theorems
 pub mod Frames
+pub mod MaskExamples

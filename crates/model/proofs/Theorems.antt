@@ -2,24 +2,26 @@
 -- The other files of this folder lead to them. Assumes nothing.
 use mathlib.Core.Path.{_≡_, refl, sym, ap, _∙_}
 use mathlib.Core.Logic.{_⊎_, inl, inr}
-use mathlib.Core.Bool.{_&&_}
+use mathlib.Core.Bool.{true, false, _&&_}
 use mathlib.Core.List.{List, [], _∷_, map}
 use Prim.Native.Nat.{ℕ, suc, _*_, _-_, _^_, _<_, _≤_}
 use native.Mathlib.Omega.{arith}
+use lib.Count.{ones}
 use lib.Dec.{T}
 use lib.IntN.{ℤ}
 use lib.ListN.{length, getD}
 use lib.Pow.{pow-mono}
 use Rattle.model.specs.Lists.{atMost}
 use Rattle.model.specs.Soft.{Soft, finite, _at_, plus, maxLlr}
-use Rattle.model.specs.Encoding.{Mask, unfrozen, encode}
-use Rattle.model.specs.Scan.{Tree, message, start, visit, sweeps, scan, Decoded, decided, decodeScan, SignsOf}
+use Rattle.model.specs.Encoding.{Mask, isUnfrozen, unfrozen, encode}
+use Rattle.model.specs.Scan.{Tree, message, start, visit, sweeps, scan, decided, decodeScan, SignsOf}
 use Rattle.model.specs.Plans.{oneCut, cutsOfKinds, wellCut, Allowed, leafOnly, walk, walkBy, planned, Agree, Stays, cycles, cyclesBy, plannerPlan, cutsBelow, counts, plannedBy, cutsOfKindsBy, plannerBy}
 use Rattle.model.specs.Kinds.{Kind, order, fits, kindBy, ownCycles, shortcut}
 use Rattle.model.specs.Orders.{former, HasAll, countsBy, cutsWith, moved}
 use Rattle.model.specs.Scale.{scaledAll}
 use Rattle.model.specs.Refusals.{refusal, row-1, row-2, row-4, row-7, DecodeCall, exponent, decodeNumber, decodeAnswer, decodeCheck, decodeCycles}
 use Rattle.model.specs.Captures.{maskSize, maskIn, frameSize, frameCount, CaptureFrame, frameAt, captureNumber, frameCall, differing, withFrame, totalsOf, sumOver}
+use Rattle.model.specs.Masks.{weight, matrixRow, weightMask}
 use Rattle.model.specs.Bounds.{SmallAll, Under, AllUnder, InRange, limit, cap}
 use Rattle.model.proofs.Shortcuts.{sound-start}
 use Rattle.model.proofs.Paths.{wellCut-test, allowed-cuts}
@@ -32,6 +34,8 @@ use Rattle.model.proofs.Orders.{same-message, same-cycles, cuts-by, pla
 use Rattle.model.proofs.FormerCounts.{counts-moved, moved-most}
 use Rattle.model.proofs.Scale.{scan-scaled, decode-scaled}
 use Rattle.model.proofs.Captures.{good-mask, frame-left, capture-decodes, sums-are}
+use Rattle.model.proofs.RowWeights.{row-weight}
+use Rattle.model.proofs.RankOrder.{weight-made, weight-unfrozen, no-fewer-ones}
 use Rattle.model.proofs.Bounds.{within-sweeps, within-start, within-all, within-held, held-sweeps, in-range, soft-under, under-plus, under-mono, cap-limit}
 
 -- ---- 1. Every accepted decode, whichever allowed plan it is given, equals SCAN walked to the last leaf.
@@ -210,3 +214,18 @@ totals-sum mask drain fs = record {
   differ = sums-are mask (λ t. t .differ) (λ f. differing (f .llrs) (decodeAnswer (frameCall mask f) .hard)) (λ t x. refl) drain fs refl;
   cycles = sums-are mask (λ t. t .cycles) (λ f. decodeCycles (frameCall mask f)) (λ t x. refl) drain fs refl;
 }
+
+-- ---- 8. Masks by row weight.
+
+-- The weight of row i of the polar matrix is 2 to the power of the ones of i.
+pub row-weights : (n i : ℕ) → i < 2 ^ n → weight (matrixRow n i) ≡ 2 ^ ones i
+row-weights = row-weight
+
+-- The mask by row weight has K unfrozen positions.
+pub first-unfrozen : (n K : ℕ) → K ≤ 2 ^ n → Mask n (weightMask n K) × (unfrozen (weightMask n K) ≡ K)
+first-unfrozen n K few = (weight-made n K, weight-unfrozen n K few)
+
+-- An unfrozen position's row has no less weight than a frozen one's.
+pub heavier-rows : (n K i j : ℕ) → i < 2 ^ n → j < 2 ^ n → isUnfrozen (getD (weightMask n K) i 0) ≡ true → isUnfrozen (getD (weightMask n K) j 0) ≡ false
+    → weight (matrixRow n j) ≤ weight (matrixRow n i)
+heavier-rows n K i j I J a b = rw (row-weight n j J, row-weight n i I) (pow-mono (no-fewer-ones n K i j I J a b))

@@ -12,7 +12,7 @@ use Rattle.model.specs.Lists.{tabulate, total}
 use Rattle.model.specs.Encoding.{_⊕_, kernel, kronecker, polarMatrix, times, transform}
 use Rattle.model.proofs.Lists.{Monoid, double, length-tabulate, getD-tabulate, tabulate-ext, tabulate-split, tabulate-halves, joined-lo, joined-hi, halves, only, total-ext, total-split}
 
-add-monoid : Monoid _+_ 0
+pub add-monoid : Monoid _+_ 0
 add-monoid = record { assoc = add-assoc; comm = add-comm; unit = zero-add }
 
 -- ---- the matrix by quarters

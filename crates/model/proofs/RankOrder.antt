@@ -1,0 +1,117 @@
+-- The rank order is strict: it is the order of one number for each position. So a mask by weight has exactly K unfrozen positions. Assumes nothing.
+use mathlib.Core.Path.{_≡_, refl, sym, ap, _∙_}
+use mathlib.Core.Bool.{Bool, true, false, cond, _&&_, _||_}
+use Prim.Native.Nat.{ℕ, zero, suc, _+_, _*_, _^_, _≤_, _<_}
+use native.Mathlib.Nat.{mul-le-mul-right}
+use native.Mathlib.Decide.{decLt}
+use native.Mathlib.Omega.{arith}
+use lib.Dec.{eqb, ltb}
+use lib.Arith.{lt-of-le-ne}
+use lib.Count.{ones}
+use lib.ListN.{getD}
+use borrow.Author.Tests.{ltb-true, ltb-false, eqb-true, eqb-false, lt-ltb, le-ltb}
+use Rattle.model.specs.Lists.{tabulate, total, bit}
+use Rattle.model.specs.Encoding.{Mask, isUnfrozen, unfrozen}
+use Rattle.model.proofs.Lists.{total-ext, length-tabulate, getD-tabulate, at-most-tabulate, cond-both}
+use Rattle.model.specs.Masks.{ranksBefore, ahead, weightByte, weightMask}
+use Rattle.model.proofs.Transform.{add-monoid}
+use Rattle.model.proofs.Ranks.{rank, rank-le, low, low-all}
+
+-- ---- one number for a position below N: larger for more ones, and for the larger position among equals
+unfoldable pub key : ℕ → ℕ → ℕ
+key N i = ones i * N + i
+
+module _ (N i j : ℕ) (I : i < N) (J : j < N) where
+  up-ones : ones i < ones j → key N i < key N j
+  unfolding key
+  up-ones h = omega (arith, mul-le-mul-right N h)
+
+  up-place : ones i ≡ ones j → i < j → key N i < key N j
+  unfolding key
+  up-place e h = omega (arith, ap (λ (z : ℕ). z * N) e)
+
+  down-place : ones i ≡ ones j → j ≤ i → key N j ≤ key N i
+  unfolding key
+  down-place e h = omega (arith, ap (λ (z : ℕ). z * N) e)
+
+-- the test of the order is that of the numbers
+pub ranks-before-is : (N i j : ℕ) → i < N → j < N → ranksBefore j i ≡ ltb (key N i) (key N j)
+ranks-before-is N i j I J = go (ltb (ones i) (ones j)) (eqb (ones j) (ones i)) (ltb i j) refl refl refl
+  where
+    go : (a b c : Bool) → ltb (ones i) (ones j) ≡ a → eqb (ones j) (ones i) ≡ b → ltb i j ≡ c → (a || (b && c)) ≡ ltb (key N i) (key N j)
+    go true b c p q r = sym (lt-ltb (key N i) (key N j) (up-ones N i j I J (ltb-true (ones i) (ones j) p)))
+    go false true true p q r = sym (lt-ltb (key N i) (key N j) (up-place N i j I J (sym (eqb-true (ones j) (ones i) q)) (ltb-true i j r)))
+    go false true false p q r = sym (le-ltb (key N i) (key N j) (down-place N i j I J (sym (eqb-true (ones j) (ones i) q)) (ltb-false i j r)))
+    go false false c p q r = sym (le-ltb (key N i) (key N j) (below (up-ones N j i J I (lt-of-le-ne (ltb-false (ones i) (ones j) p) (eqb-false (ones j) (ones i) q)))))
+      where
+        below : {a b : ℕ} → a < b → a ≤ b
+        below h = omega arith
+
+-- numbers that agree are those of one position
+pub key-same : (N i j : ℕ) → i < N → j < N → key N i ≡ key N j → i ≡ j
+key-same N i j I J e = go (decLt (ones i) (ones j)) (decLt (ones j) (ones i))
+  where
+    same : ones i ≡ ones j → i ≡ j
+    same o = turn (ones i * N) (ones j * N) (ap (λ (z : ℕ). z * N) o) (unfold key in e)
+      where
+        turn : (a b : ℕ) → a ≡ b → a + i ≡ b + j → i ≡ j
+        turn a b p q = omega arith
+
+    go : Dec (ones i < ones j) → Dec (ones j < ones i) → i ≡ j
+    go (yes h) d = let z : ⊥ = omega (arith, up-ones N i j I J h) in absurd z
+    go (no h) (yes g) = let z : ⊥ = omega (arith, up-ones N j i J I g) in absurd z
+    go (no h) (no g) = same (omega arith)
+
+pub ahead-is : (N i : ℕ) → i < N → ahead N i ≡ rank (key N) N i
+unfolding ahead rank
+ahead-is N i I = total-ext _+_ 0 add-monoid N (λ j. bit (ranksBefore j i)) (λ j. bit (ltb (key N i) (key N j))) (λ j J. ap bit (ranks-before-is N i j I J))
+
+-- ---- exactly K unfrozen positions
+pub unfrozen-sum : (N : ℕ) (f : ℕ → ℕ) → unfrozen (tabulate N f) ≡ total _+_ 0 N (λ i. bit (isUnfrozen (f i)))
+unfolding unfrozen tabulate total
+unfrozen-sum zero f = refl
+unfrozen-sum (suc N) f = ap (λ (x : ℕ). bit (isUnfrozen (f 0)) + x) (unfrozen-sum N (λ i. f (suc i)))
+
+open-byte : (b : Bool) → isUnfrozen (cond b 0 1) ≡ b
+open-byte true = refl
+open-byte false = refl
+
+pub weight-unfrozen : (n K : ℕ) → K ≤ 2 ^ n → unfrozen (weightMask n K) ≡ K
+unfolding weightMask low
+weight-unfrozen n K h =
+    let N : ℕ = 2 ^ n in
+    unfrozen-sum N (weightByte N K)
+    ∙ total-ext _+_ 0 add-monoid N (λ i. bit (isUnfrozen (weightByte N K i))) (λ i. bit (ltb (rank (key N) N i) K))
+    (λ i I. ap bit (open-byte (ltb (ahead N i) K) ∙ ap (λ (x : ℕ). ltb x K) (ahead-is N i I)))
+    ∙ low-all (key N) N (λ i j l J e. apart i j l (key-same N i j (omega arith) J e)) K h
+  where
+    apart : (i j : ℕ) → i < j → i ≡ j → ⊥
+    apart i j l e = omega arith
+
+pub weight-made : (n K : ℕ) → Mask n (weightMask n K)
+unfolding weightMask
+weight-made n K = record {
+  sized = length-tabulate (2 ^ n) (weightByte (2 ^ n) K);
+  bytes = at-most-tabulate 1 (2 ^ n) (weightByte (2 ^ n) K) (λ i. cond-both (λ (x : ℕ). x ≤ 1) (ltb (ahead (2 ^ n) i) K) (omega arith) (omega arith));
+}
+
+pub weight-open : (n K i : ℕ) → i < 2 ^ n → isUnfrozen (getD (weightMask n K) i 0) ≡ ltb (ahead (2 ^ n) i) K
+unfolding weightMask
+weight-open n K i h = ap isUnfrozen (getD-tabulate (2 ^ n) (weightByte (2 ^ n) K) i 0 h) ∙ open-byte (ltb (ahead (2 ^ n) i) K)
+
+-- ---- an unfrozen position has no fewer ones than a frozen one
+pub no-fewer-ones : (n K i j : ℕ) → i < 2 ^ n → j < 2 ^ n → isUnfrozen (getD (weightMask n K) i 0) ≡ true → isUnfrozen (getD (weightMask n K) j 0) ≡ false → ones j ≤ ones i
+no-fewer-ones n K i j I J a b = go (decLt (ones i) (ones j))
+  where
+    N : ℕ
+    N = 2 ^ n
+
+    before : ahead N i < ahead N j
+    before = omega (arith, ltb-true (ahead N i) K (sym (weight-open n K i I) ∙ a), ltb-false (ahead N j) K (sym (weight-open n K j J) ∙ b))
+
+    go : Dec (ones i < ones j) → ones j ≤ ones i
+    go (yes l) =
+        let less : key N i < key N j = up-ones N i j I J l in
+        let z : ⊥ = omega (arith, before, ahead-is N i I, ahead-is N j J, rank-le (key N) N i j (omega (arith, less))) in
+        absurd z
+    go (no l) = omega arith
