@@ -2,6 +2,7 @@
 use decode::decode;
 use encode::encode;
 use kinds::KINDS;
+use masks::mask_by_weight;
 use planner::plan_mask;
 use plans::check_plan;
 use replay::replay_totals;
@@ -11,6 +12,7 @@ use transform::transform;
 ghost use mathlib.Core.Path.{_≡_};
 ghost use lib.ListN.{length};
 ghost use Rattle.model.specs.Refusals.{samplesNumber, samplesLlrs, encodeNumber, encodeWord, planBytes};
+ghost use Rattle.model.specs.Masks.{weightNumber, weightMaskAfter};
 ghost use Rattle.transform.specs.Calls.{transformNumber, transformBytes};
 ghost use Rattle.decode.specs.Calls.{lent, given};
 ghost use Rattle.ruznavo.specs.Answers.{CheckAnswer, PlanAnswer, hostCounts, DecodeAnswer, ReplayAnswer};
@@ -93,6 +95,15 @@ pub extern "C" fn ruznavo_decode(
 {
     let d = decode(mask, plan, sweeps, llrs, soft, hard, payload, work);
     d.number as u64 + 256 * d.cycles as u64 + 1099511627776 * d.check as u64
+}
+
+// The mask of N and K by row weight. The answer is the number.
+#[no_mangle]
+pub extern "C" fn ruznavo_mask_by_weight(n: usize, k: usize, mask: &mut [u8]) -> u64
+    ensures { λ r. ⌜ r ≡ weightNumber n k (length (now (mask .entry))) ⌝ }
+    ensures { λ _. ⌜ now (mask .exit) ≡ weightMaskAfter n k (now (mask .entry)) ⌝ }
+{
+    mask_by_weight(n, k, mask) as u64
 }
 
 // A capture replayed: the text of its totals goes to the front of out. The answer is the number + 256 × the length of the text.

@@ -1,0 +1,19 @@
+// Calls that are refused.
+use crate::calls::FILLER;
+use crate::calls::right;
+use crate::fields::value_at;
+use test_tools::numbers::one_if;
+use test_tools::tally::Count;
+
+// A line is call N K ROOM NUMBER. The buffer stays as it was.
+pub fn run_call(line: &[u8]) -> Count {
+    let n = value_at(line, 1);
+    let k = value_at(line, 2);
+    let room = value_at(line, 3);
+    let number = (value_at(line, 4) % 256) as u32;
+    Count {
+        cases: 1,
+        right: one_if(right(n, k, room, number, [FILLER; 4112])),
+        calls: 1,
+    }
+}
