@@ -18,10 +18,13 @@ typedef uint64_t plan_call(const uint8_t *mask, size_t mask_length, uint8_t *pla
 typedef uint64_t samples_call(const float *samples, size_t samples_length, const uint8_t *marks, size_t marks_length,
                               float variance, int16_t *llrs, size_t llrs_length);
 
+typedef uint64_t mask_call(size_t n, size_t k, uint8_t *mask, size_t mask_length);
+
 decode_call plain_decode, sse2_decode;
 encode_call plain_encode;
 transform_call plain_transform;
 plan_call plain_plan;
 samples_call plain_samples;
+mask_call plain_mask_by_weight;
 
 #endif

@@ -106,6 +106,22 @@ static int plan_node(const uint8_t *mask, size_t size, uint8_t *plan, size_t nod
     return UNCUT;
 }
 
+// The positions of each number of ones, most first, from the largest down.
+uint64_t plain_mask_by_weight(size_t n, size_t k, uint8_t *mask, size_t mask_length) {
+    if (!exponent_of(n)) return 1;
+    if (k > n) return 16;
+    if (mask_length < n) return 11;
+    size_t unfrozen = 0;
+    memset(mask, 1, n);
+    for (int ones = 10; ones >= 0 && unfrozen < k; ones--)
+        for (size_t i = n; i-- > 0 && unfrozen < k;)
+            if (__builtin_popcountll(i) == ones) {
+                mask[i] = 0;
+                unfrozen++;
+            }
+    return 0;
+}
+
 uint64_t plain_plan(const uint8_t *mask, size_t n, uint8_t *plan, size_t plan_length, uint32_t *counts) {
     if (!exponent_of(n)) return 1;
     if (above_one(mask, n)) return 2;

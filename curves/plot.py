@@ -14,7 +14,7 @@ BLACK, BLUE, ORANGE, GREEN, RED, PURPLE = "#000000", "#0072B2", "#E69F00", "#009
 COLOURS = {0: BLACK, 1: BLUE, 2: ORANGE, 4: GREEN, 8: RED}  # by sweeps; SC has 0
 MARKERS = {0: "cross", 1: "circle", 2: "square", 4: "triangle", 8: "diamond"}
 DASH = ' stroke-dasharray="6 4"'
-RULES = {"erasure": "erasure rates", "weight": "polarization weight"}
+RULES = {"erasure": "erasure rates", "weight": "polarization weight", "rows": "row weight"}
 WIDTH, HEIGHT = 440, 330  # of a panel
 LEFT, RIGHT, TOP, BOTTOM = 64, 14, 34, 46  # margins inside a panel
 HEAD = 84

@@ -39,6 +39,9 @@ int ref_samples(const float *samples, size_t N, const uint8_t *marks, size_t mar
 int ref_encode(const uint8_t *mask, size_t N, const uint8_t *payload, size_t payload_length, uint8_t *word,
                size_t room);
 
+/* The mask by row weight. */
+int ref_mask_by_weight(size_t N, size_t K, uint8_t *mask, size_t room);
+
 /* counts, of REF_KINDS words, is left as it was by a refused call. */
 int ref_plan(const uint8_t *mask, size_t N, uint8_t *plan, size_t room, uint32_t *counts, uint32_t *cycles);
 

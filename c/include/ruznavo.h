@@ -3,9 +3,9 @@
  *
  * The library is x86-64 code with the System V calling convention. `rt staticlib ruznavo` writes it as
  * target/staticlib/libruznavo.a; `make -C c install` installs that archive, a shared object, this header and a file for
- * pkg-config. It needs memcpy and memset of the C library and nothing else. It has no static data, allocates nothing,
- * makes no system call and always returns, so calls may run on several threads at once as long as they do not share a
- * buffer that one of them writes.
+ * pkg-config. It needs memcpy and memset of the C library and nothing else. It has no writable static data, allocates
+ * nothing, makes no system call and always returns, so calls may run on several threads at once as long as they do not
+ * share a buffer that one of them writes.
  *
  * Buffers. A buffer is a pointer and its length in elements, bytes or words as the type says.
  *   - Samples, LLRs and words are in the machine's own representation, with the natural alignment of their type:
@@ -48,11 +48,11 @@
  *
  * Answers. Each call answers one number; the functions below take it apart. The refusal number is 0 if the call was
  * accepted. A refused call answers its number with every other result 0 and leaves every buffer as it was, the
- * workspace too. If several causes apply, the lowest number of those that the call tests is answered; a replay tests in
- * an order of its own.
+ * workspace too. If several causes apply, the lowest number of those that the call tests is answered; mask_by_weight
+ * and replay test in the order that is given with them.
  *
- * Stack. At N = 1024 a replay used less than 80 KB, since it holds a decode's buffers, the decoder less than 5 KB,
- * planner and plan check less than 2 KB each, the others less than 200 bytes.
+ * Stack. At N = 1024 a replay used less than 80 KB, since it holds a decode's buffers, the decoder less than 5 KB, the
+ * mask by weight less than 2.5 KB, planner and plan check less than 2 KB each, the others less than 200 bytes.
  * `make -C c` measures this (c/test/stack.c), and fails where a call uses more.
  */
 #ifndef RUZNAVO_H
@@ -67,9 +67,9 @@ extern "C" {
 
 /* The version of this header and of the library that it belongs to. The shared object's name has the first number. */
 #define RUZNAVO_VERSION_MAJOR 0
-#define RUZNAVO_VERSION_MINOR 5
+#define RUZNAVO_VERSION_MINOR 6
 #define RUZNAVO_VERSION_PATCH 0
-#define RUZNAVO_VERSION "0.5.0"
+#define RUZNAVO_VERSION "0.6.0"
 
 #define RUZNAVO_MIN_N 2
 #define RUZNAVO_MAX_N 1024
@@ -111,7 +111,7 @@ enum {
 /* Refusal numbers. 13 stands in the line program's text alone; no call answers it. */
 enum {
     RUZNAVO_OK = 0,
-    RUZNAVO_BAD_LENGTH = 1,    /* mask length, or number of samples or bits, is not a power of two from 2 to 1024 */
+    RUZNAVO_BAD_LENGTH = 1,    /* N, given or as a length, is not a power of two from 2 to 1024 */
     RUZNAVO_BAD_MASK = 2,      /* a mask byte above 1 */
     RUZNAVO_BAD_COUNT = 3,     /* LLRs or position marks are not N, or the payload is not K */
     RUZNAVO_BAD_SWEEPS = 4,    /* sweeps outside 1 to RUZNAVO_MAX_SWEEPS */
@@ -125,14 +125,15 @@ enum {
     RUZNAVO_SHORT_WORK = 12,   /* the workspace is too short */
     RUZNAVO_BAD_LINE = 13,     /* the line is malformed */
     RUZNAVO_BAD_CAPTURE = 14,  /* a capture's trailer or lengths do not fit, or it has more than 65536 bytes */
-    RUZNAVO_BAD_DRAIN = 15     /* a drain number above 63 */
+    RUZNAVO_BAD_DRAIN = 15,    /* a drain number above 63 */
+    RUZNAVO_BAD_UNFROZEN = 16  /* K above N */
 };
 
 /* A refusal number's cause in words, for messages. */
 static inline const char *ruznavo_number_name(unsigned number) {
     switch (number) {
     case RUZNAVO_OK: return "accepted";
-    case RUZNAVO_BAD_LENGTH: return "mask length, or number of samples or bits, not a power of two from 2 to 1024";
+    case RUZNAVO_BAD_LENGTH: return "N, given or as a length, not a power of two from 2 to 1024";
     case RUZNAVO_BAD_MASK: return "mask byte above 1";
     case RUZNAVO_BAD_COUNT: return "LLRs or position marks not N, or payload not K";
     case RUZNAVO_BAD_SWEEPS: return "sweeps outside 1 to 8";
@@ -147,6 +148,7 @@ static inline const char *ruznavo_number_name(unsigned number) {
     case RUZNAVO_BAD_LINE: return "line malformed";
     case RUZNAVO_BAD_CAPTURE: return "capture's trailer or lengths do not fit, or more than 65536 bytes";
     case RUZNAVO_BAD_DRAIN: return "drain number above 63";
+    case RUZNAVO_BAD_UNFROZEN: return "K above N";
     default: return "unknown number";
     }
 }
@@ -224,6 +226,20 @@ uint64_t ruznavo_check_plan(const uint8_t *mask, size_t mask_length, const uint8
 uint64_t ruznavo_decode(const uint8_t *mask, size_t mask_length, const uint8_t *plan, size_t plan_length, size_t sweeps,
                         const int16_t *llrs, size_t llrs_length, int32_t *soft, size_t soft_length, uint8_t *hard,
                         size_t hard_length, uint8_t *payload, size_t payload_length, int32_t *work, size_t work_length);
+
+/*
+ * The mask of N and K by row weight: positions are ranked by the number of ones in the binary index, most ones first,
+ * larger index first among equals, and the first K are unfrozen. Row i of the polar matrix has 2 to the power of the
+ * ones of i ones, so the rule looks at the distance between words alone, and not at how reliable a position is in SCAN.
+ * Such a mask is good at high rates with several sweeps and at low error rates: for (1024, 896) it is level with a mask
+ * by polarization weight at a block error rate of 0.001 and 8 sweeps. Elsewhere it needs about 1 to 4 dB more
+ * (docs/CURVES.md).
+ *   n     N itself, not its exponent
+ *   k     K
+ *   mask  N bytes or more; the first N are written
+ * Answers the number: 0, or the first of 1, 16 and 11.
+ */
+uint64_t ruznavo_mask_by_weight(size_t n, size_t k, uint8_t *mask, size_t mask_length);
 
 /*
  * Replays a capture with the planner's plan of its mask, and writes the totals of its drains as text: a line for each

@@ -24,9 +24,9 @@
 /* The longest input that a damaged call has. */
 enum { LONGEST = 4 * REF_MAX_N };
 
-enum call { SAMPLES, ENCODE, TRANSFORM, PLAN, CHECK_PLAN, DECODE, REPLAY, CALLS };
+enum call { SAMPLES, ENCODE, TRANSFORM, PLAN, CHECK_PLAN, DECODE, REPLAY, MASK_BY_WEIGHT, CALLS };
 static const char *const call_names[CALLS] = {"samples",    "encode", "transform", "plan",
-                                              "check_plan", "decode", "replay"};
+                                              "check_plan", "decode", "replay",    "mask_by_weight"};
 
 /* The numbers that each call can answer, as bits. */
 static const unsigned answers[CALLS] = {
@@ -37,10 +37,11 @@ static const unsigned answers[CALLS] = {
     1u << 0 | 1u << 1 | 1u << 2 | 1u << 5 | 1u << 6,
     0xFFu | 1u << 11 | 1u << 12,
     1u << 0 | 1u << 1 | 1u << 2 | 1u << 4 | 1u << 7 | 1u << 11 | 1u << 14 | 1u << 15,
+    1u << 0 | 1u << 1 | 1u << 11 | 1u << 16,
 };
 
 static uint64_t seed = 1, case_number;
-enum { NUMBERS = RUZNAVO_BAD_DRAIN + 1 };
+enum { NUMBERS = RUZNAVO_BAD_UNFROZEN + 1 };
 static uint64_t number_seen[CALLS][NUMBERS], stage_seen[CALLS][REF_MAX_STAGE + 1], sweeps_seen[REF_MAX_SWEEPS + 1],
     check_seen[2];
 
@@ -515,6 +516,23 @@ static void replay_case(struct random *r) {
     if (number == 0) stage_seen[REPLAY][ref_exponent(c.N)]++;
 }
 
+/* ---- masks */
+
+static void mask_by_weight_case(struct random *r) {
+    size_t N = (size_t)1 << random_from(r, 1, REF_MAX_STAGE), K = random_below(r, N + 1), room = enough(r, N);
+    for (int d = damages(r); d > 0; d--) switch (random_below(r, 3)) {
+        case 0: N = other_length(r, N); break;
+        case 1: K = random_chance(r, 0.5) ? N + 1 : random_chance(r, 0.5) ? SIZE_MAX : other_length(r, N); break;
+        default: room = too_short(r, N);
+        }
+    place(r, MASK, room, 1, NULL);
+    static const enum slot used[] = {MASK};
+    uint64_t answer = ruznavo_mask_by_weight(N, K, buffer(MASK), room);
+    int number = ref_mask_by_weight(N, K, twin(MASK), room);
+    compare(MASK_BY_WEIGHT, answer, number, 0, 0, used, 1);
+    if (number == 0) stage_seen[MASK_BY_WEIGHT][ref_exponent(N)]++;
+}
+
 /* ---- document 01's frames, so that library and reference cannot be wrong alike there */
 
 struct frame {
@@ -595,10 +613,10 @@ static void run_frames(void) {
 
 /* Every number has a name of its own, and any other has the same one. */
 static void run_names(void) {
-    for (unsigned a = 0; a <= RUZNAVO_BAD_DRAIN + 1; a++)
+    for (unsigned a = 0; a < NUMBERS + 1; a++)
         for (unsigned b = 0; b < a; b++)
             if (strcmp(ruznavo_number_name(a), ruznavo_number_name(b)) == 0) stop("two numbers of one name");
-    if (strcmp(ruznavo_number_name(RUZNAVO_BAD_DRAIN + 1), ruznavo_number_name(255))) stop("an unknown number's name");
+    if (strcmp(ruznavo_number_name(NUMBERS), ruznavo_number_name(255))) stop("an unknown number's name");
 }
 
 static void run_header(void) {
@@ -609,6 +627,13 @@ static void run_header(void) {
         if (RUZNAVO_WORK_WORDS(N) != N * (n + 3)) stop("the workspace's words");
     if (RUZNAVO_MAX_WORK_WORDS != 1024 * 13) stop("the longest workspace");
     run_names();
+}
+
+/* A mask worked out by hand. */
+static void run_mask(void) {
+    static const uint8_t expected[8] = {1, 1, 1, 1, 1, 0, 0, 0};
+    uint8_t mask[8];
+    if (ruznavo_mask_by_weight(8, 3, mask, 8) || memcmp(mask, expected, 8)) stop("the mask of 8 and 3");
 }
 
 /* ---- what was tried */
@@ -650,7 +675,7 @@ static void all_kinds_tried(void) {
 
 int main(int argc, char **argv) {
     static void (*const run[CALLS])(struct random *) = {samples_case,    encode_case, transform_case, plan_case,
-                                                        check_plan_case, decode_case, replay_case};
+                                                        check_plan_case, decode_case, replay_case,    mask_by_weight_case};
     uint64_t cases = argc > 2 ? strtoull(argv[2], NULL, 10) : 50000, first = argc > 3 ? strtoull(argv[3], NULL, 10) : 0;
     if (argc > 1) seed = strtoull(argv[1], NULL, 10);
     signal(SIGSEGV, fault);
@@ -659,6 +684,7 @@ int main(int argc, char **argv) {
     run_header();
     run_frames();
     run_counts();
+    run_mask();
     for (case_number = first; case_number < first + cases; case_number++) {
         struct random r = random_case(seed, case_number);
         run[case_number % CALLS](&r);
