@@ -1,4 +1,5 @@
-// Encoder, transform, planner, front end and decoder in plain C, as one would write them without intrinsics.
+// Encoder, transform, planner, front end, mask by row weight and decoder in plain C, as one would write them without
+// intrinsics.
 #include "baseline.h"
 #include "kinds.h"
 #include "slips.h"
@@ -106,19 +107,22 @@ static int plan_node(const uint8_t *mask, size_t size, uint8_t *plan, size_t nod
     return UNCUT;
 }
 
-// The positions of each number of ones, most first, from the largest down.
+// How many positions of each number of ones are unfrozen; then the positions from the largest down.
 uint64_t plain_mask_by_weight(size_t n, size_t k, uint8_t *mask, size_t mask_length) {
     if (!exponent_of(n)) return 1;
     if (k > n) return 16;
     if (mask_length < n) return 11;
-    size_t unfrozen = 0;
-    memset(mask, 1, n);
-    for (int ones = 10; ones >= 0 && unfrozen < k; ones--)
-        for (size_t i = n; i-- > 0 && unfrozen < k;)
-            if (__builtin_popcountll(i) == ones) {
-                mask[i] = 0;
-                unfrozen++;
-            }
+    size_t unfrozen[11] = {0}, left = k;
+    for (size_t i = 0; i < n; i++) unfrozen[__builtin_popcountll(i)]++;
+    for (int ones = 10; ones >= 0; ones--) {
+        if (unfrozen[ones] > left) unfrozen[ones] = left;
+        left -= unfrozen[ones];
+    }
+    for (size_t i = n; i-- > 0;) {
+        size_t *more = &unfrozen[__builtin_popcountll(i)];
+        mask[i] = *more == 0;
+        *more -= *more > 0;
+    }
     return 0;
 }
 

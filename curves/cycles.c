@@ -59,16 +59,16 @@ static uint32_t leaf_cycles(const uint8_t *mask, size_t n) {
 
 int main(void) {
     puts("| code | 001: SCAN | 001: fast-SCAN | leaf-only plan | erasure: six kinds | erasure: planner | "
-         "weight: six kinds | weight: planner |");
+         "polarization: six kinds | polarization: planner |");
     puts("|---|---|---|---|---|---|---|---|");
     for (size_t i = 0; i < sizeof rows / sizeof *rows; i++) {
         size_t n = rows[i].n, k = rows[i].k;
-        uint8_t erasure[MAX_N], weight[MAX_N];
+        uint8_t erasure[MAX_N], polarization[MAX_N];
         make_mask(erasure, n, k);
-        code_by_weight(weight, n, k);
+        code_by_polarization(polarization, n, k);
         printf("| (%zu, %zu) | %zu | %u | %u | %u | %u | %u | %u |\n", n, k, 6 * n - 6, rows[i].fast,
                leaf_cycles(erasure, n), six_kinds_cycles(erasure, n), planner_cycles(erasure, n),
-               six_kinds_cycles(weight, n), planner_cycles(weight, n));
+               six_kinds_cycles(polarization, n), planner_cycles(polarization, n));
     }
     return 0;
 }

@@ -1,7 +1,7 @@
 // mask RULE N K: prints the mask of a code, as one line of digits, 1 for a frozen position. Rules:
-//   erasure  erasure rates, for an erasure channel of rate 1/2 (c/common/codes.h)
-//   weight   polarization weight (c/common/codes.h)
-//   rows     row weight, by the library's own call
+//   erasure       erasure rates, for an erasure channel of rate 1/2 (c/common/codes.h)
+//   polarization  polarization weight (c/common/codes.h)
+//   rows          row weight, by the library's own call
 #include "channel.h"
 #include "codes.h"
 #include "ruznavo.h"
@@ -11,7 +11,7 @@
 #include <string.h>
 
 static int usage(void) {
-    fputs("usage: mask erasure|weight|rows N K, N a power of two from 2 to 1024, K at most N\n", stderr);
+    fputs("usage: mask erasure|polarization|rows N K, N a power of two from 2 to 1024, K at most N\n", stderr);
     return 2;
 }
 
@@ -21,7 +21,7 @@ int main(int count, char **words) {
     if (n < 2 || n > MAX_N || (n & (n - 1)) || k > n) return usage();
     uint8_t mask[MAX_N];
     if (!strcmp(words[1], "erasure")) make_mask(mask, n, k);
-    else if (!strcmp(words[1], "weight")) code_by_weight(mask, n, k);
+    else if (!strcmp(words[1], "polarization")) code_by_polarization(mask, n, k);
     else if (strcmp(words[1], "rows") || ruznavo_mask_by_weight(n, k, mask, n)) return usage();
     for (size_t i = 0; i < n; i++) putchar('0' + mask[i]);
     putchar('\n');

@@ -3,7 +3,7 @@
 plot.py scale OUT.svg IN.csv: block error rates by the scale of the LLRs that scale wrote.
 
 The first has a row for each code, with the block errors and their 95% confidence ranges on the left and the bit errors
-on the right. The second has a panel for each rule. A mask is named RULE-N-K.
+on the right. The second has a panel for each rule that occurs. A mask is named RULE-N-K.
 """
 import csv
 import math
@@ -14,7 +14,7 @@ BLACK, BLUE, ORANGE, GREEN, RED, PURPLE = "#000000", "#0072B2", "#E69F00", "#009
 COLOURS = {0: BLACK, 1: BLUE, 2: ORANGE, 4: GREEN, 8: RED}  # by sweeps; SC has 0
 MARKERS = {0: "cross", 1: "circle", 2: "square", 4: "triangle", 8: "diamond"}
 DASH = ' stroke-dasharray="6 4"'
-RULES = {"erasure": "erasure rates", "weight": "polarization weight", "rows": "row weight"}
+RULES = {"erasure": "erasure rates", "polarization": "polarization weight", "rows": "row weight"}
 WIDTH, HEIGHT = 440, 330  # of a panel
 LEFT, RIGHT, TOP, BOTTOM = 64, 14, 34, 46  # margins inside a panel
 HEAD = 84
@@ -225,9 +225,10 @@ def draw_key(x, y, shape, colour, words):
 def draw_scales(rows):
     title = "Block error rate by the scale of the LLRs, 1 sweep; dashed: floating-point SCAN, LLRs not rounded"
     parts = [text(LEFT, 22, title, 14, "start")]
-    for index, rule in enumerate(RULES):
+    rules = [rule for rule in RULES if any(rule_of(row) == rule for row in rows)]
+    for index, rule in enumerate(rules):
         parts += scale_panel(index * WIDTH, 36, rule, [row for row in rows if rule_of(row) == rule])
-    return page(2 * WIDTH, 36 + HEIGHT + len(CODE_STYLES) * LINES + 10, parts)
+    return page(len(rules) * WIDTH, 36 + HEIGHT + len(CODE_STYLES) * LINES + 10, parts)
 
 
 def main():

@@ -29,7 +29,7 @@ void code_for_erasures(uint8_t *mask, size_t N, size_t K, double rate) {
     freeze_worst(mask, N, K, z);
 }
 
-void code_by_weight(uint8_t *mask, size_t N, size_t K) {
+void code_by_polarization(uint8_t *mask, size_t N, size_t K) {
     double less[REF_MAX_N]; /* 0 less the weight */
     for (size_t i = 0; i < N; i++) {
         less[i] = 0;

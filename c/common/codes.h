@@ -18,7 +18,7 @@ void code_for_erasures(uint8_t *mask, size_t N, size_t K, double rate);
  * least weights are frozen. The weight of an index is the sum of 2^(b / 4) over its bits b that are 1, bit 0 the
  * lowest. Up to N = 1024 no two weights are equal: the nearest differ by 0.0028, which double precision tells apart.
  */
-void code_by_weight(uint8_t *mask, size_t N, size_t K);
+void code_by_polarization(uint8_t *mask, size_t N, size_t K);
 
 /* A mask of one of several shapes: even density, one node of a kind, a polar code, a run, or nodes of kinds side by
  * side. */

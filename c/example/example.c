@@ -70,7 +70,8 @@ int main(void) {
     for (size_t i = 0; i < K; i++) payload[i] = random_bits() >> 8 & 1;
     accepted("encode", ruznavo_encode(mask, N, payload, K, word, N));
     send_word();
-    accepted("samples", ruznavo_samples(samples, N, marks, N, variance, llrs, N));
+    /* A variance of a sixteenth: LLRs and soft values on a larger scale lose less by rounding (ruznavo.h). */
+    accepted("samples", ruznavo_samples(samples, N, marks, N, variance / 16, llrs, N));
 
     for (size_t i = 0; i < N; i++) hard[i] = llrs[i] < 0;
     printf("received: %d of %d bits of the word wrong before decoding\n", different(hard, word, N), N);

@@ -232,8 +232,8 @@ uint64_t ruznavo_decode(const uint8_t *mask, size_t mask_length, const uint8_t *
  * larger index first among equals, and the first K are unfrozen. Row i of the polar matrix has 2 to the power of the
  * ones of i ones, so the rule looks at the distance between words alone, and not at how reliable a position is in SCAN.
  * Such a mask is good at high rates with several sweeps and at low error rates: for (1024, 896) it is level with a mask
- * by polarization weight at a block error rate of 0.001 and 8 sweeps. Elsewhere it needs about 1 to 4 dB more
- * (docs/CURVES.md).
+ * by polarization weight at a block error rate of 0.001 and 8 sweeps. Elsewhere it needs 0.3 to 4.3 dB more: least at
+ * that rate and at N = 128, most at low rates (docs/CURVES.md).
  *   n     N itself, not its exponent
  *   k     K
  *   mask  N bytes or more; the first N are written

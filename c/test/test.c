@@ -640,7 +640,7 @@ static void run_mask(void) {
 
 static void report(void) {
     for (int call = 0; call < CALLS; call++) {
-        printf("%-10s", call_names[call]);
+        printf("%-17s", call_names[call]);
         for (int number = 0; number < NUMBERS; number++)
             if (number_seen[call][number]) printf("  %d: %" PRIu64, number, number_seen[call][number]);
         printf("\n");

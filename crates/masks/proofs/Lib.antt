@@ -1,4 +1,3 @@
--- RankTable: a table in rank order. Places: what the loop over it counts and writes. Calls: the tests of a call, and its buffer.
-pub mod RankTable
+-- Places: what the loop over the table counts and writes. Calls: the tests of a call, and its buffer.
 pub mod Places
 pub mod Calls

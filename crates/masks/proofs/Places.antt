@@ -15,7 +15,7 @@ use Rattle.model.proofs.Lists.{length-tabulate, getD-tabulate, total-ext, total
 use Rattle.model.specs.Masks.{ranksBefore, ahead, weightByte}
 use Rattle.model.proofs.Transform.{add-monoid}
 use Rattle.model.proofs.Sums.{sum-most, total-suc, bit-yes, bit-no}
-use Rattle.masks.proofs.RankTable.{ahead-same, place-below, place-before}
+use Rattle.model.proofs.RankTable.{ahead-same, place-below, place-before}
 
 one-place : (N p : ℕ) → total _+_ 0 N (λ j. bit (eqb j p)) ≡ bit (ltb p N)
 unfolding total

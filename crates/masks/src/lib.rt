@@ -1,4 +1,5 @@
 // Masks that are made from N and K: by row weight.
+use inputs::UNFROZEN;
 use inputs::exponent_of;
 use inputs::tested;
 ghost use mathlib.Core.Path.{_≡_};
@@ -24,7 +25,7 @@ pub fn row_weight(i: usize) -> usize
 fn mask_byte(unfrozen: bool) -> u8
     ensures { λ r. ⌜ r ≡ cond unfrozen 0 1 ⌝ }
 {
-    if unfrozen { 0 } else { 1 }
+    if unfrozen { UNFROZEN } else { 1 }
 }
 
 // A mask byte for each of the first `size` positions, in rank order: the first k are unfrozen. Entries of the table that are

@@ -1,5 +1,5 @@
 // The table of ranks.
-ghost use Rattle.masks.specs.Table.{InRankOrder};
+ghost use Rattle.model.specs.Masks.{InRankOrder};
 
 // The positions below 1024 in rank order: most ones in the binary index first, larger index first among equals.
 const RANK: [u16; 1024] = [

@@ -24,6 +24,7 @@ pub mod Sums
 pub mod RowWeights
 pub mod Ranks
 pub mod RankOrder
+pub mod RankTable
 pub mod Theorems
 pub mod Frames
 pub mod MaskExamples

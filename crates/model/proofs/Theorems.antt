@@ -21,7 +21,7 @@ use Rattle.model.specs.Orders.{former, HasAll, countsBy, cutsWith, moved
 use Rattle.model.specs.Scale.{scaledAll}
 use Rattle.model.specs.Refusals.{refusal, row-1, row-2, row-4, row-7, DecodeCall, exponent, decodeNumber, decodeAnswer, decodeCheck, decodeCycles}
 use Rattle.model.specs.Captures.{maskSize, maskIn, frameSize, frameCount, CaptureFrame, frameAt, captureNumber, frameCall, differing, withFrame, totalsOf, sumOver}
-use Rattle.model.specs.Masks.{weight, matrixRow, weightMask}
+use Rattle.model.specs.Masks.{weight, matrixRow, ranksBefore, weightMask, InRankOrder}
 use Rattle.model.specs.Bounds.{SmallAll, Under, AllUnder, InRange, limit, cap}
 use Rattle.model.proofs.Shortcuts.{sound-start}
 use Rattle.model.proofs.Paths.{wellCut-test, allowed-cuts}
@@ -36,6 +36,7 @@ use Rattle.model.proofs.Scale.{scan-scaled, decode-scaled}
 use Rattle.model.proofs.Captures.{good-mask, frame-left, capture-decodes, sums-are}
 use Rattle.model.proofs.RowWeights.{row-weight}
 use Rattle.model.proofs.RankOrder.{weight-made, weight-unfrozen, no-fewer-ones}
+use Rattle.model.proofs.RankTable.{entry-once, entry-order}
 use Rattle.model.proofs.Bounds.{within-sweeps, within-start, within-all, within-held, held-sweeps, in-range, soft-under, under-plus, under-mono, cap-limit}
 
 -- ---- 1. Every accepted decode, whichever allowed plan it is given, equals SCAN walked to the last leaf.
@@ -220,6 +221,14 @@ totals-sum mask drain fs = record {
 -- The weight of row i of the polar matrix is 2 to the power of the ones of i.
 pub row-weights : (n i : ℕ) → i < 2 ^ n → weight (matrixRow n i) ≡ 2 ^ ones i
 row-weights = row-weight
+
+-- A table in rank order holds each position exactly once, and each entry ranks before the later ones.
+pub table-once : (table : List ℕ) → InRankOrder table → (i : ℕ) → i < 1024
+    → (q : ℕ) × (q < 1024) × (getD table q 0 ≡ i) × ((p : ℕ) → p < 1024 → getD table p 0 ≡ i → p ≡ q)
+table-once = entry-once
+
+pub table-order : (table : List ℕ) → InRankOrder table → (p q : ℕ) → p < q → q < 1024 → ranksBefore (getD table p 0) (getD table q 0) ≡ true
+table-order = entry-order
 
 -- The mask by row weight has K unfrozen positions.
 pub first-unfrozen : (n K : ℕ) → K ≤ 2 ^ n → Mask n (weightMask n K) × (unfrozen (weightMask n K) ≡ K)

@@ -1,10 +1,11 @@
 -- Masks that a call makes: request No. 6's, by row weight. Assumes nothing.
-use Prim.Native.Nat.{ℕ, _+_, _^_}
+use Prim.Native.Nat.{ℕ, _+_, _^_, _<_}
 use mathlib.Core.Bool.{Bool, cond, _&&_, _||_}
 use mathlib.Core.List.{List, [], _∷_}
+use mathlib.Core.Path.{_≡_}
 use lib.Dec.{eqb, leb, ltb}
 use lib.Count.{ones}
-use lib.ListN.{length}
+use lib.ListN.{length, getD}
 use Rattle.model.specs.Lists.{tabulate, total, bit, over}
 use Rattle.model.specs.Encoding.{polarMatrix}
 use Rattle.model.specs.Refusals.{Test, test, refusal, exponent, accepted, row-1, row-11}
@@ -33,6 +34,11 @@ weightByte N K i = cond (ltb (ahead N i) K) 0 1
 -- the mask by row weight, of N = 2 ^ n positions and K unfrozen ones
 unfoldable pub weightMask : ℕ → ℕ → List ℕ
 weightMask n K = tabulate (2 ^ n) (weightByte (2 ^ n) K)
+
+-- a table of 1024 ranks in that order: each entry is a position below 1024, and as many of those rank before it as stand before it
+pub record InRankOrder (table : List ℕ) : Type 0 where
+  pub position : (q : ℕ) → q < 1024 → getD table q 0 < 1024
+  pub place : (q : ℕ) → q < 1024 → ahead 1024 (getD table q 0) ≡ q
 
 -- ---- the call
 

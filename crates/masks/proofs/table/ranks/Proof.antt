@@ -1,5 +1,5 @@
 -- `masks::table::ranks` meets its contract: the checker computes the test of the whole table. Assumes nothing.
-use Rattle.masks.proofs.RankTable.{quick, falls, tableTest, in-order}
+use Rattle.model.proofs.RankTable.{quick, falls, tableTest, in-order}
 use lib.Count.{onesIn}
 use Rattle.masks.proofs.table.ranks.Statement.{statement}
 use Rattle.masks.proofs.table.ranks.Tie as tie

@@ -12,11 +12,10 @@ use lib.Pow.{shr-lt}
 use lib.Count.{ones, onesIn, ones-step}
 use lib.ListN.{length, getD}
 use borrow.Author.Tests.{ltb-true, ltb-false, lt-ltb, le-ltb}
 use Rattle.model.proofs.Lists.{and-l, and-r}
-use Rattle.model.specs.Masks.{ranksBefore, ahead}
-use Rattle.masks.specs.Table.{InRankOrder}
+use Rattle.model.specs.Masks.{ranksBefore, ahead, InRankOrder}
 use Rattle.model.proofs.Ranks.{rank, rank-le, rank-lt, rank-below}
 use Rattle.model.proofs.RankOrder.{key, key-same, ranks-before-is, ahead-is}
 
 -- ---- the test
 
@@ -106,7 +105,7 @@ place-before M i j I J = ap₂ ltb (ahead-is M j J) (ahead-is M i I) ∙ go (ltb
     go true e = lt-ltb (rank (key M) M j) (rank (key M) M i) (rank-lt (key M) M j i J (ltb-true (key M i) (key M j) e)) ∙ sym e
     go false e = le-ltb (rank (key M) M j) (rank (key M) M i) (rank-le (key M) M j i (ltb-false (key M i) (key M j) e)) ∙ sym e
 
--- ---- a table that tableTest the test
+-- ---- a table that passes the test
 unfoldable pub tableTest : List ℕ → Bool
 tableTest table = falls (11 * 1024) table && eqb (length table) 1024
 
@@ -136,15 +135,15 @@ module _ (table : List ℕ) (passed : T (tableTest table)) where
 
 -- ---- a table in rank order holds each position exactly once, and an entry ranks before each later one
 module _ (table : List ℕ) (sorted : InRankOrder table) where
-  pub entry-of : (i : ℕ) → i < 1024 → (ahead 1024 i < 1024) × (getD table (ahead 1024 i) 0 ≡ i)
+  entry-of : (i : ℕ) → i < 1024 → (ahead 1024 i < 1024) × (getD table (ahead 1024 i) 0 ≡ i)
   entry-of i h =
       let l = place-below 1024 i h in
       (l, ahead-same 1024 (getD table (ahead 1024 i) 0) i (sorted .position (ahead 1024 i) l) h (sorted .place (ahead 1024 i) l))
 
-  pub table-once : (i : ℕ) → i < 1024 → (q : ℕ) × (q < 1024) × (getD table q 0 ≡ i) × ((p : ℕ) → p < 1024 → getD table p 0 ≡ i → p ≡ q)
-  table-once i h = let e = entry-of i h in (ahead 1024 i, e .0, e .1, λ p l d. sym (sorted .place p l) ∙ ap (ahead 1024) d)
+  pub entry-once : (i : ℕ) → i < 1024 → (q : ℕ) × (q < 1024) × (getD table q 0 ≡ i) × ((p : ℕ) → p < 1024 → getD table p 0 ≡ i → p ≡ q)
+  entry-once i h = let e = entry-of i h in (ahead 1024 i, e .0, e .1, λ p l d. sym (sorted .place p l) ∙ ap (ahead 1024) d)
 
-  pub table-order : (p q : ℕ) → p < q → q < 1024 → ranksBefore (getD table p 0) (getD table q 0) ≡ true
-  table-order p q l h =
+  pub entry-order : (p q : ℕ) → p < q → q < 1024 → ranksBefore (getD table p 0) (getD table q 0) ≡ true
+  entry-order p q l h =
       sym (place-before 1024 (getD table q 0) (getD table p 0) (sorted .position q h) (sorted .position p (omega arith)))
       ∙ ap₂ ltb (sorted .place p (omega arith)) (sorted .place q h) ∙ lt-ltb p q l
