@@ -1,4 +1,4 @@
--- What each case of `Position` stands for in document 01, and what the steps of the conversion give. Assumes nothing.
+-- What each case of `Position` stands for in document 01, and what the steps of the conversion and the tests of the samples give. Assumes nothing.
 use Prim.Native.Nat.{ℕ, min, _*_}
 use mathlib.Core.Bool.{Bool, true, false, cond, _&&_}
 use mathlib.Core.List.{List, [], _∷_, map}

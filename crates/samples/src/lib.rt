@@ -35,7 +35,7 @@ fn clamp_high(x: f32) -> f32
     if x < 32767.0 { x } else { 32767.0 }
 }
 
-// d without its sign.
+// d without its sign; a zero keeps its own.
 fn size(d: f32) -> f32
     ensures { λ r. ⌜ r ≡ sizeOf d ⌝ }
 {
