@@ -245,9 +245,10 @@ uint64_t ruznavo_mask_by_weight(size_t n, size_t k, uint8_t *mask, size_t mask_l
  * Replays a capture with the planner's plan of its mask, and writes the totals of its drains as text: a line for each
  * drain that occurs, in rising order, with drain, frames, frames whose frozen check is 1, hard bits that differ from the
  * LLR's sign (an LLR of 0 counts as bit 0) and cycles, in decimal, separated by single spaces and ended by a line feed.
- *   capture  frames, one after the other; then the mask, N bytes; then 16 bytes: 44 52 4E 31 (hexadecimal), the mask's
- *            offset, the first frame's offset, which is 0, and the number of frames, each of 32 bits, low byte first. A
- *            frame is a drain number below 64, a sweep count and N LLRs, each of 16 bits, low byte first
+ *   capture  at most RUZNAVO_MAX_CAPTURE bytes: frames, one after the other; then the mask, N bytes; then 16 bytes:
+ *            44 52 4E 31 (hexadecimal), the mask's offset, the first frame's offset, which is 0, and the number of
+ *            frames, each of 32 bits, low byte first. A frame is a drain number below 64, a sweep count and N LLRs,
+ *            each of 16 bits, low byte first, the LLRs in two's complement
  *   out      RUZNAVO_MAX_REPLAY bytes or more; the text goes to its front, without a 0 at the end
  * Answers the number, 0 or the first of 14, 1 and 2, frame by frame 15, 4 and 7, and last 11; and the text's length.
  */

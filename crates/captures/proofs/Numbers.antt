@@ -14,7 +14,7 @@ use mir.Syntax.{w16, w32}
 use mir.Val.{SFits, toZ, ofZ}
 use mir.ValLaws.{toZ-pos, toZ-ofZ}
 use Rattle.model.specs.Lists.{same, part}
-use Rattle.model.specs.Captures.{numberOf, number16At, signed16, trailerBytes}
+use Rattle.model.specs.Captures.{numberOf, number16At, signed16, signature}
 use Rattle.model.proofs.Lists.{and-assoc, and-true}
 
 -- ---- the bytes at a place
@@ -57,16 +57,16 @@ module _ (l : List ℕ) (i : ℕ) (byte : (k : ℕ) → getD l k 0 < 256) where
   pub long-small : i + 4 ≤ length l → numberOf (part l i 4) < 4294967296
   long-small h = omega (arith, long-is l i h, word-is l i (omega arith), word-is l (i + 2) (omega arith), byte i, byte (i + 1), byte (i + 2), byte (i + 2 + 1))
 
--- ---- the trailer's bytes
-pub trailer-is : (l : List ℕ) (i : ℕ) → i + 4 ≤ length l
-    → same (part l i 4) trailerBytes ≡ ((eqb (getD l i 0) 68 && eqb (getD l (i + 1) 0) 82) && (eqb (getD l (i + 2) 0) 78 && eqb (getD l (i + 3) 0) 49))
+-- ---- the signature's bytes
+pub signature-is : (l : List ℕ) (i : ℕ) → i + 4 ≤ length l
+    → same (part l i 4) signature ≡ ((eqb (getD l i 0) 68 && eqb (getD l (i + 1) 0) 82) && (eqb (getD l (i + 2) 0) 78 && eqb (getD l (i + 3) 0) 49))
 unfolding same
-trailer-is l i h =
+signature-is l i h =
     let p = eqb (getD l i 0) 68 in
     let q = eqb (getD l (i + 1) 0) 82 in
     let r = eqb (getD l (i + 2) 0) 78 in
     let s = eqb (getD l (i + 3) 0) 49 in
-    ap (λ (t : List ℕ). same t trailerBytes) (four l i h)
+    ap (λ (t : List ℕ). same t signature) (four l i h)
     ∙ ap (λ (t : Bool). p && (q && (r && t))) (and-true s)
     ∙ sym (and-assoc p q (r && s))
 

@@ -1,5 +1,5 @@
 -- The tests of a capture's trailer, from the numbers that the code reads. Assumes nothing.
-use mathlib.Core.Path.{_≡_, refl, ap, _∙_}
+use mathlib.Core.Path.{_≡_, refl, _∙_}
 use mathlib.Core.Bool.{Bool, true, false, _&&_}
 use mathlib.Core.List.{List}
 use Prim.Native.Nat.{ℕ, _+_, _-_, _*_, _^_, _≤_, _<_}
@@ -9,8 +9,7 @@ use borrow.Author.Tests.{le-leb, lt-leb}
 use lib.Dec.{eqb, leb}
 use lib.ListN.{length}
 use Rattle.model.specs.Lists.{same, part}
-use Rattle.model.specs.Refusals.{refusal}
-use Rattle.model.specs.Captures.{isCapture, maxCapture, trailerSize, trailerBytes, trailerAt, firstFrameAt, maskAt, frameCount, frameSize}
+use Rattle.model.specs.Captures.{isCapture, maxCapture, trailerSize, signature, trailerAt, firstFrameAt, maskAt, frameCount, frameSize}
 use Rattle.captures.specs.Layouts.{LaidOut, Placed, fits}
 
 -- the frames' bytes are counted without overflow
@@ -48,8 +47,8 @@ module _ {number at size frames : ℕ} (is : (number ≡ 14) × (at ≡ 0) × (s
       record { number-is = is .0 ∙ rw h; mask-is = refused; size-is = refused; count-is = refused; nothing = λ n. (is .1, is .2, is .3) }
 
   pub laid-not : (bytes : List ℕ) → Sized bytes ≡ false → LaidOut bytes number at size frames
-  unfolding refusal isCapture
-  laid-not bytes h = record { number-is = is .0 ∙ rw h; mask-is = refused; size-is = refused; count-is = refused; nothing = λ n. (is .1, is .2, is .3) }
+  unfolding isCapture
+  laid-not bytes h = placed-not (isCapture bytes) (trailerAt bytes) (maskAt bytes) (frameCount bytes) (rw h)
 
 pub mask-beyond : (trailer : Bool) (end mask first count : ℕ) → end < mask → fits trailer end mask first count ≡ false
 unfolding fits
@@ -64,20 +63,12 @@ pub placed : {passed : Bool} (end mask count : ℕ) → passed ≡ true → Plac
 placed end mask count h = record { number-is = rw h; mask-is = λ z. refl; size-is = λ z. refl; count-is = λ z. refl; nothing = λ n. absurd (n refl) }
 
 module _ (bytes : List ℕ) (sized : Sized bytes ≡ true) where
-  fits-is : isCapture bytes ≡ fits (same (part bytes (trailerAt bytes) 4) trailerBytes) (trailerAt bytes) (maskAt bytes) (firstFrameAt bytes) (frameCount bytes)
+  fits-is : isCapture bytes ≡ fits (same (part bytes (trailerAt bytes) 4) signature) (trailerAt bytes) (maskAt bytes) (firstFrameAt bytes) (frameCount bytes)
   unfolding fits isCapture
   fits-is = rw (sized, add-zero (trailerAt bytes))
 
   pub laid : {trailer : Bool} {mask first count number at size frames : ℕ}
       → Placed (fits trailer (trailerAt bytes) mask first count) (trailerAt bytes) mask count number at size frames
-      → trailer ≡ same (part bytes (trailerAt bytes) 4) trailerBytes → mask ≡ maskAt bytes → first ≡ firstFrameAt bytes → count ≡ frameCount bytes
+      → trailer ≡ same (part bytes (trailerAt bytes) 4) signature → mask ≡ maskAt bytes → first ≡ firstFrameAt bytes → count ≡ frameCount bytes
       → LaidOut bytes number at size frames
-  unfolding refusal
-  laid p k m f n =
-      record {
-        number-is = p .number-is ∙ rw (k, m, f, n, fits-is);
-        mask-is = λ z. p .mask-is z ∙ m;
-        size-is = λ z. p .size-is z ∙ ap (λ (x : ℕ). trailerAt bytes - x) m;
-        count-is = λ z. p .count-is z ∙ n;
-        nothing = p .nothing;
-      }
+  laid p k m f n = rw fits-is (rw (k, m, f, n) at p)

@@ -3,7 +3,7 @@ ghost use mathlib.Core.Path.{_≡_};
 ghost use Prim.Native.Nat.{_+_, _*_, _≤_, _<_};
 ghost use lib.ListN.{length};
 ghost use Rattle.model.specs.Lists.{tabulate, same, part, over};
-ghost use Rattle.model.specs.Captures.{numberOf, number16At, signed16, trailerBytes};
+ghost use Rattle.model.specs.Captures.{numberOf, number16At, signed16, signature};
 ghost use Rattle.captures.specs.Layouts.{LaidOut, Placed, fits};
 
 // The bytes of the trailer, and the most bytes of a capture.
@@ -35,13 +35,13 @@ fn number32_at(bytes: &[u8], at: usize) -> usize
 }
 
 // Whether the four bytes 44 52 4E 31, hexadecimal, stand at `at`.
-fn is_trailer(bytes: &[u8], at: usize) -> bool
+fn has_signature(bytes: &[u8], at: usize) -> bool
     requires { ⌜ at + 4 ≤ length (now bytes) ⌝ }
-    ensures { λ r. ⌜ r ≡ same (part (now (bytes .entry)) at 4) trailerBytes ⌝ }
+    ensures { λ r. ⌜ r ≡ same (part (now (bytes .entry)) at 4) signature ⌝ }
 {
-    let expected = b"DRN1";
-    let front = inputs::both(bytes[at] == expected[0], bytes[at + 1] == expected[1]);
-    let back = inputs::both(bytes[at + 2] == expected[2], bytes[at + 3] == expected[3]);
+    let signature = b"DRN1";
+    let front = inputs::both(bytes[at] == signature[0], bytes[at + 1] == signature[1]);
+    let back = inputs::both(bytes[at + 2] == signature[2], bytes[at + 3] == signature[3]);
     inputs::both(front, back)
 }
 
@@ -97,7 +97,7 @@ pub fn read_layout(bytes: &[u8]) -> Layout
         return no_layout();
     }
     let end = bytes.len() - TRAILER_SIZE;
-    let trailer = is_trailer(bytes, end);
+    let trailer = has_signature(bytes, end);
     let mask = number32_at(bytes, end + 4);
     let first = number32_at(bytes, end + 8);
     let count = number32_at(bytes, end + 12);

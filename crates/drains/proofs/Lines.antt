@@ -1,17 +1,16 @@
 -- The lines by the steps of the code, and how long they are. Assumes nothing.
 use mathlib.Core.Path.{_≡_, refl, sym, ap}
-use mathlib.Core.Bool.{cond}
 use mathlib.Core.List.{List, [], _∷_, _++_, append-nil, append-assoc}
 use Prim.Native.Nat.{ℕ, suc, _+_, _-_, _^_, _≤_, _<_}
 use native.Mathlib.Numerals.{add-one}
 use native.Mathlib.Omega.{arith}
-use lib.Dec.{eqb}
-use lib.ListN.{length, getD, length-append}
+use lib.ListN.{length, length-append}
 use borrow.Author.Tests.{eq-eqb, ne-eqb}
+use Rattle.model.specs.Captures.{Totals}
 use Rattle.printer.specs.Text.{natText, spaced, lineText}
 use Rattle.printer.specs.Put.{Put}
 use Rattle.printer.proofs.Sizes.{nat-length}
-use Rattle.drains.specs.Text.{drainText, drainsText, maxDrainLine}
+use Rattle.drains.specs.Text.{drainText, drainLine, drainsText, maxDrainLine}
 
 -- ---- one line
 
@@ -58,25 +57,22 @@ drain-size {drain} {frames} {checks} {differ} {cycles} hd hf hc hx hy =
     )
 
 -- ---- the line of a drain that occurs
-abbrev pub occurring : ℕ → ℕ → ℕ → ℕ → ℕ → List ℕ
-occurring drain frames checks differ cycles = cond (eqb frames 0) [] (drainText drain frames checks differ cycles)
-
 module _ (drain frames checks differ cycles : ℕ) where
-  pub occurring-none : frames ≡ 0 → [] ≡ occurring drain frames checks differ cycles
+  pub occurring-none : frames ≡ 0 → [] ≡ drainLine drain frames checks differ cycles
   occurring-none h = rw (eq-eqb frames 0 h)
 
-  pub occurring-some : (frames ≡ 0 → ⊥) → drainText drain frames checks differ cycles ≡ occurring drain frames checks differ cycles
+  pub occurring-some : (frames ≡ 0 → ⊥) → drainText drain frames checks differ cycles ≡ drainLine drain frames checks differ cycles
   occurring-some h = rw (ne-eqb frames 0 h)
 
 pub put-none : (o : List ℕ) (i : ℕ) → Put [] o i o i
 put-none o i = record { bytes = refl; ends = omega arith }
 
 -- ---- what is still to come after d drains
-module _ (frames checks differ cycles : List ℕ) where
+module _ (totals : ℕ → Totals) where
   abbrev pub drainsFrom : ℕ → List ℕ
-  drainsFrom d = drainsText (64 - d) d frames checks differ cycles
+  drainsFrom d = drainsText (64 - d) d totals
 
-  pub drains-on : (d : ℕ) → d < 64 → occurring d (getD frames d 0) (getD checks d 0) (getD differ d 0) (getD cycles d 0) ++ drainsFrom (d + 1) ≡ drainsFrom d
+  pub drains-on : (d : ℕ) → d < 64 → drainLine d (totals d .frames) (totals d .checks) (totals d .differ) (totals d .cycles) ++ drainsFrom (d + 1) ≡ drainsFrom d
   unfolding drainsText
   drains-on d h = let e : 64 - d ≡ suc (64 - (d + 1)) = omega arith in rw (e, add-one d)
 

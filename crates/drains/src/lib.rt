@@ -6,7 +6,7 @@ ghost use Prim.Native.Nat.{_≤_};
 ghost use lib.ListN.{length};
 ghost use Rattle.printer.specs.Text.{natText};
 ghost use Rattle.printer.specs.Put.{Put, Printed};
-ghost use Rattle.drains.specs.Text.{drainText, drainLine, drainsText, maxDrainLine, maxDrainsText};
+ghost use Rattle.drains.specs.Text.{drainText, drainLine, drainsText, totalsAt, maxDrainLine, maxDrainsText};
 
 // A number behind a space.
 fn put_field(n: u64, out: &mut [u8], at: usize) -> usize
@@ -63,7 +63,7 @@ pub fn print_drains(
     cycles: &[u64; 64],
     out: &mut [u8],
 ) -> usize
-    ensures { λ r. ⌜ Printed (drainsText 64 0 (now (frames .entry)) (now (checks .entry)) (now (differ .entry)) (now (cycles .entry))) maxDrainsText (now (out .entry)) (now (out .exit)) r ⌝ }
+    ensures { λ r. ⌜ Printed (drainsText 64 0 (totalsAt (now (frames .entry)) (now (checks .entry)) (now (differ .entry)) (now (cycles .entry)))) maxDrainsText (now (out .entry)) (now (out .exit)) r ⌝ }
 {
     let mut e: usize = 0;
     let mut d: usize = 0;

@@ -4,7 +4,7 @@ use mathlib.Core.List.{List, [], _∷_, _++_}
 use Prim.Native.Nat.{ℕ, _+_, _*_, _^_, _≤_, _<_}
 use native.Mathlib.Omega.{arith}
 use native.Mathlib.Nat.{mul-le-mul}
-use borrow.Author.Tests.{le-leb, lt-leb}
+use borrow.Author.Tests.{le-leb}
 use lib.IntN.{ℤ}
 use lib.ListN.{length, take, drop}
 use lib.Seq.{take-at}
@@ -16,16 +16,12 @@ use Rattle.model.specs.Refusals.{refusal, exponent, accepted, row-4, row-7, dec
 use Rattle.model.specs.Captures.{CaptureFrame, number16At, signed16, maxDrain, frameAt, frameNumber, frameCall, differing}
 use Rattle.model.proofs.Lists.{length-tabulate}
 use Rattle.model.proofs.Refusals.{exponent-power, length-small}
-use Rattle.model.proofs.Captures.{number-left, plan-allowed, frame-left}
+use Rattle.model.proofs.Captures.{drain-over, number-left, plan-allowed, frame-left}
 use Rattle.model.proofs.Payload.{unfrozen-most}
 use Rattle.decode.specs.Calls.{Lent, Given, given, callOf, Outcome}
 use Rattle.frames.specs.Frames.{Planned, Roomy, frameOf, FrameReplayed}
 
--- a frame's number, by its drain
-pub drain-over : (f : CaptureFrame) → maxDrain < f .drain → 15 ≡ frameNumber f
-unfolding frameNumber refusal
-drain-over f lt = rw (lt-leb (f .drain) maxDrain lt)
-
+-- the number of a frame whose drain fits
 pub drain-fits : (f : CaptureFrame) → f .drain ≤ maxDrain → refusal (row-4 (f .sweeps) ∷ row-7 (f .llrs) ∷ []) ≡ frameNumber f
 unfolding frameNumber refusal
 drain-fits f le = rw (le-leb (f .drain) maxDrain le)
@@ -110,7 +106,7 @@ module _ (mask bytes : List ℕ) (at : ℕ) where
 
   pub over-drain : {number drain a b c d : ℕ} → drain ≡ number16At bytes at → maxDrain < drain → (number ≡ 15) × (a ≡ 0) × (b ≡ 0) × (c ≡ 0) × (d ≡ 0) → FrameReplayed mask read number a b c d
   unfolding frameAt
-  over-drain e lt is = no-answer (λ z. omega (arith, is .0)) (is .0 ∙ drain-over read (omega (arith, e))) (is .1, is .2, is .3, is .4)
+  over-drain e lt is = no-answer (λ z. omega (arith, is .0)) (is .0 ∙ sym (drain-over read (omega (arith, e)))) (is .1, is .2, is .3, is .4)
 
   -- the front of the buffer that the LLRs were read into
   pub read-front : (old new : List ℤ) → new ≡ over (tabulate (length mask) (λ k. signed16 (number16At bytes (at + 4 + 2 * k)))) old

@@ -18,9 +18,6 @@ pub differ-small : (z : ℤ) (b : ℕ) → differing (z ∷ []) (b ∷ []) ≤ 1
 unfolding differing
 differ-small z b = omega (arith, bit-small (not (eqb b (bit (negative z)))))
 
-pub differ-start : (llrs : List ℤ) (hard : List ℕ) → differing llrs hard ≡ 0 + differing (drop 0 llrs) (drop 0 hard)
-differ-start llrs hard = omega arith
-
 pub differ-more : (n : ℕ) (llrs : List ℤ) (hard : List ℕ) (i : ℕ) → i < length llrs → i < length hard
     → n + differing (drop i llrs) (drop i hard) ≡ n + differing (getD llrs i (pos 0) ∷ []) (getD hard i 0 ∷ []) + differing (drop (i + 1) llrs) (drop (i + 1) hard)
 unfolding differing

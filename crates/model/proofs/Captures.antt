@@ -5,7 +5,7 @@ use mathlib.Core.List.{List, [], _∷_}
 use Prim.Native.Nat.{ℕ, zero, suc, _+_, _*_, _≤_, _<_}
 use native.Mathlib.Nat.{le-refl, le-of-suc-le-suc}
 use native.Mathlib.Omega.{arith}
-use borrow.Author.Tests.{eq-eqb, ne-eqb, le-leb, leb-true, eqb-true}
+use borrow.Author.Tests.{eq-eqb, ne-eqb, le-leb, lt-leb, leb-true, eqb-true}
 use lib.Dec.{T, eqb, leb}
 use lib.ListN.{length, drop, length-drop}
 use lib.Seq.{length-take-le}
@@ -13,7 +13,7 @@ use Rattle.model.specs.Lists.{same, atMost, tabulate}
 use Rattle.model.specs.Encoding.{maxMask, unfrozen}
 use Rattle.model.specs.Plans.{isPlan, oneCut, cutsOfKinds, plannerPlan, Allowed}
 use Rattle.model.specs.Refusals.{refusal, exponent, accepted, row-1, row-2, row-4, row-7, DecodeCall, decodeNumber}
-use Rattle.model.specs.Captures.{isCapture, maxCapture, trailerSize, trailerBytes, trailerAt, inTrailer, firstFrameAt, maskAt, maskSize, maskIn, frameCount, frameSize, CaptureFrame, frameAt, framesIn, maxDrain, frameNumber, framesNumber, numberBeforeFrames, captureNumber, frameCall, Totals, noTotals, withFrame, totalsFrom, totalsOf, sumOver}
+use Rattle.model.specs.Captures.{isCapture, maxCapture, trailerSize, signature, trailerAt, inTrailer, firstFrameAt, maskAt, maskSize, maskIn, frameCount, frameSize, CaptureFrame, frameAt, framesIn, maxDrain, frameNumber, framesNumber, numberBeforeFrames, captureNumber, frameCall, Totals, noTotals, withFrame, totalsFrom, totalsOf, sumOver}
 use Rattle.model.proofs.Lists.{T-true, true-T, absurd-bool, and-l, and-r, length-tabulate}
 use Rattle.model.proofs.Refusals.{passes, exponent-power}
 use Rattle.model.proofs.Planner.{planner-allowed}
@@ -31,7 +31,7 @@ unfolding isCapture
 capture-tests bytes h =
     let low = leb trailerSize (length bytes) in
     let high = leb (length bytes) maxCapture in
-    let four = same (inTrailer bytes 0) trailerBytes in
+    let four = same (inTrailer bytes 0) signature in
     let first = eqb (firstFrameAt bytes) 0 in
     let before = leb (maskAt bytes) (trailerAt bytes) in
     let filled = eqb (frameCount bytes * frameSize (maskSize bytes)) (maskAt bytes) in
@@ -54,6 +54,15 @@ module _ (bytes : List ℕ) (h : isCapture bytes ≡ true) where
 
   pub length-mask : length (maskIn bytes) ≡ maskSize bytes
   length-mask = length-take-le (maskSize bytes) (drop (maskAt bytes) bytes) (omega (arith, length-drop (maskAt bytes) bytes, capture-whole))
+
+-- ---- what is tested first: whether bytes are a capture, and of a frame its drain
+pub layout-refused : (bytes : List ℕ) → isCapture bytes ≡ false → captureNumber bytes ≡ 14
+unfolding captureNumber numberBeforeFrames refusal
+layout-refused bytes h = rw h
+
+pub drain-over : (f : CaptureFrame) → maxDrain < f .drain → frameNumber f ≡ 15
+unfolding frameNumber refusal
+drain-over f h = rw (lt-leb (f .drain) maxDrain h)
 
 -- ---- a call of which only the sweeps and the range of the LLRs are left to test
 pub record Tested (c : DecodeCall) : Type 0 where

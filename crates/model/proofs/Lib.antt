@@ -1,4 +1,4 @@
--- Theorems.antt states what the others lead to; Frames.antt has document 01's nine frames, MaskExamples.antt small masks.
+-- Theorems.antt states what the others lead to; Frames.antt has document 01's nine frames, CaptureExamples.antt small captures, MaskExamples.antt small masks.
 pub mod Lists
 pub mod Algebra
 pub mod Transform
@@ -27,4 +27,5 @@ pub mod RankOrder
 pub mod RankTable
 pub mod Theorems
 pub mod Frames
+pub mod CaptureExamples
 pub mod MaskExamples

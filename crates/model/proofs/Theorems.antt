@@ -20,7 +20,7 @@ use Rattle.model.specs.Kinds.{Kind, order, fits, kindBy, ownCycles, shor
 use Rattle.model.specs.Orders.{former, HasAll, countsBy, cutsWith, moved}
 use Rattle.model.specs.Scale.{scaledAll}
 use Rattle.model.specs.Refusals.{refusal, row-1, row-2, row-4, row-7, DecodeCall, exponent, decodeNumber, decodeAnswer, decodeCheck, decodeCycles}
-use Rattle.model.specs.Captures.{maskSize, maskIn, frameSize, frameCount, CaptureFrame, frameAt, captureNumber, frameCall, differing, withFrame, totalsOf, sumOver}
+use Rattle.model.specs.Captures.{isCapture, maskSize, maskIn, frameSize, frameCount, CaptureFrame, frameAt, frameNumber, captureNumber, frameCall, differing, withFrame, totalsOf, sumOver}
 use Rattle.model.specs.Masks.{weight, matrixRow, ranksBefore, weightMask, InRankOrder}
 use Rattle.model.specs.Bounds.{SmallAll, Under, AllUnder, InRange, limit, cap}
 use Rattle.model.proofs.Shortcuts.{sound-start}
@@ -33,7 +33,7 @@ use Rattle.model.proofs.Signs.{signs-hard, signs-payload, signs-check}
 use Rattle.model.proofs.Orders.{same-message, same-cycles, cuts-by, planner-by, walk-by, planned-by, cycles-by, has-order, has-former}
 use Rattle.model.proofs.FormerCounts.{counts-moved, moved-most}
 use Rattle.model.proofs.Scale.{scan-scaled, decode-scaled}
-use Rattle.model.proofs.Captures.{good-mask, frame-left, capture-decodes, sums-are}
+use Rattle.model.proofs.Captures.{layout-refused, drain-over, good-mask, frame-left, capture-decodes, sums-are}
 use Rattle.model.proofs.RowWeights.{row-weight}
 use Rattle.model.proofs.RankOrder.{weight-made, weight-unfrozen, no-fewer-ones}
 use Rattle.model.proofs.RankTable.{entry-once, entry-order}
@@ -189,7 +189,14 @@ pub cycles-on-scale : (c d : DecodeCall) → c .mask ≡ d .mask → c .plan ≡
 unfolding decodeCycles
 cycles-on-scale c d mask plan sweeps p q = rw (p, q) (λ i. sweeps i * cycles (plan i) (exponent (length (mask i))) 1 (mask i))
 
--- ---- 7. The totals of a capture are the sums over its frames, each decoded by itself.
+-- ---- 7. Captures: what is refused first, and the totals, which are the sums over the frames, each decoded by itself.
+
+-- Bytes that are no capture have number 14, and a frame whose drain is above 63 has number 15, whatever else they hold.
+pub layout-first : (bytes : List ℕ) → isCapture bytes ≡ false → captureNumber bytes ≡ 14
+layout-first = layout-refused
+
+pub drain-first : (f : CaptureFrame) → 63 < f .drain → frameNumber f ≡ 15
+drain-first = drain-over
 
 -- A frame's own tests are all that its decode can refuse, where the mask is good and the frame has N LLRs.
 pub frame-tests : (mask : List ℕ) (f : CaptureFrame) → refusal (row-1 (length mask) ∷ row-2 mask ∷ []) ≡ 0 → length (f .llrs) ≡ length mask

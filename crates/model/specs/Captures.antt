@@ -34,9 +34,9 @@ maxCapture = 65536
 abbrev pub trailerSize : ℕ
 trailerSize = 16
 
--- the four bytes 44 52 4E 31, hexadecimal
-abbrev pub trailerBytes : List ℕ
-trailerBytes = 68 ∷ 82 ∷ 78 ∷ 49 ∷ []
+-- the trailer's first four bytes: 44 52 4E 31, hexadecimal
+abbrev pub signature : List ℕ
+signature = 68 ∷ 82 ∷ 78 ∷ 49 ∷ []
 
 abbrev pub trailerAt : List ℕ → ℕ
 trailerAt bytes = length bytes - trailerSize
@@ -70,7 +70,7 @@ frameSize N = 2 + 2 + 2 * N
 unfoldable pub isCapture : List ℕ → Bool
 isCapture bytes =
     (leb trailerSize (length bytes) && leb (length bytes) maxCapture)
-    && (same (inTrailer bytes 0) trailerBytes && (eqb (firstFrameAt bytes) 0
+    && (same (inTrailer bytes 0) signature && (eqb (firstFrameAt bytes) 0
     && (leb (maskAt bytes) (trailerAt bytes) && eqb (frameCount bytes * frameSize (maskSize bytes)) (maskAt bytes))))
 
 abbrev pub row-14 : List ℕ → Test
@@ -87,9 +87,13 @@ pub record CaptureFrame : Type 0 where
 unfoldable pub frameAt : List ℕ → ℕ → ℕ → CaptureFrame
 frameAt bytes N o = record { drain = number16At bytes o; sweeps = number16At bytes (o + 2); llrs = tabulate N (λ k. signed16 (number16At bytes (o + 4 + 2 * k))) }
 
--- all frames, in their order
+-- the first frames, in their order, of N LLRs each
+abbrev pub framesTo : List ℕ → ℕ → ℕ → List CaptureFrame
+framesTo bytes N count = tabulate count (λ j. frameAt bytes N (j * frameSize N))
+
+-- all frames
 unfoldable pub framesIn : List ℕ → List CaptureFrame
-framesIn bytes = tabulate (frameCount bytes) (λ j. frameAt bytes (maskSize bytes) (j * frameSize (maskSize bytes)))
+framesIn bytes = framesTo bytes (maskSize bytes) (frameCount bytes)
 
 -- drain numbers are below 64
 abbrev pub maxDrain : ℕ

@@ -1,4 +1,4 @@
-// Prints the program's answer into a buffer that the caller lends. Text that has no room is left out.
+// Prints into a buffer that the caller lends: the line program's answer, and refusals, bytes and numbers, which `replay` and `drains` print too. Text that has no room is left out.
 use words::MARK;
 ghost use mathlib.Core.Path.{_≡_};
 ghost use mathlib.Core.List.{[], _∷_, map};

@@ -11,11 +11,11 @@ use lib.ListN.{length, getD, set, replicate, length-set}
 use lib.Seq.{getD-set-same, getD-set-other, ext-getD}
 use Rattle.model.specs.Lists.{tabulate}
 use Rattle.model.specs.Refusals.{refusal, row-4, row-7, accepted}
-use Rattle.model.specs.Captures.{CaptureFrame, Totals, maxDrain, withFrame, totalsFrom, totalsOf, frameNumber, framesNumber}
+use Rattle.model.specs.Captures.{CaptureFrame, framesTo, Totals, maxDrain, withFrame, totalsFrom, totalsOf, frameNumber, framesNumber}
 use Rattle.frames.specs.Frames.{FrameReplayed}
 use Rattle.planner.proofs.Written.{zeros-at}
 use Rattle.model.proofs.Lists.{true-T, length-tabulate, getD-tabulate, tabulate-split}
-use Rattle.replay.specs.Totals.{Free, Adds, framesTo, Holds}
+use Rattle.replay.specs.Totals.{Free, Adds, Holds}
 
 -- ---- totals
 totals-last : (mask : List ℕ) (d : ℕ) (t : Totals) (fs : List CaptureFrame) (f : CaptureFrame)

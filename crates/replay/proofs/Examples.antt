@@ -11,11 +11,11 @@ use Rattle.model.specs.Plans.{isPlan, pathCuts, oneCut, cutsOfKindsBy, cyclesBy
 use Rattle.model.specs.Refusals.{refusal, exponentTo, llrsInRange, decodeNumber, decodeAnswer, decodeCheck, decodeCycles}
 use Rattle.model.specs.Captures.{numberOf, signed16, isCapture, frameAt, framesIn, frameNumber, framesNumber, numberBeforeFrames, captureNumber, frameCall, differing, withFrame, totalsFrom}
 use Rattle.printer.specs.Text.{digitsIn, natText, spaced, lineText}
-use Rattle.drains.specs.Text.{drainText}
-use Rattle.replay.specs.Program.{linesFrom, replayText}
+use Rattle.drains.specs.Text.{drainText, drainsText}
+use Rattle.replay.specs.Program.{replayText}
 
 -- Drain 5, one sweep, LLRs 3 and -2; the mask 1 0; a trailer with the mask's offset 8, the frames' offset 0 and one frame. It prints `5 1 1 1 2`: the second
 -- hard bit is 0 and the sign of its LLR 1.
 pub one-frame : replayText (5 ∷ 0 ∷ 1 ∷ 0 ∷ 3 ∷ 0 ∷ 254 ∷ 255 ∷ 1 ∷ 0 ∷ 68 ∷ 82 ∷ 78 ∷ 49 ∷ 8 ∷ 0 ∷ 0 ∷ 0 ∷ 0 ∷ 0 ∷ 0 ∷ 0 ∷ 1 ∷ 0 ∷ 0 ∷ 0 ∷ []) ≡ 53 ∷ 32 ∷ 49 ∷ 32 ∷ 49 ∷ 32 ∷ 49 ∷ 32 ∷ 50 ∷ 10 ∷ []
-unfolding replayText linesFrom totalsFrom withFrame differing frameCall captureNumber numberBeforeFrames framesNumber frameNumber framesIn frameAt isCapture signed16 numberOf drainText lineText spaced natText digitsIn refusal exponentTo atMost llrsInRange decodeNumber decodeAnswer decodeCheck decodeCycles isPlan pathCuts oneCut cutsOfKindsBy cyclesBy plannerBy levelsBy cutAtBy kindOf decodeScan decided hardWord scan sweeps visit toNode toRight toLeft start leafValue frozenZero payloadOf place unfrozen transform times polarMatrix kronecker kernel box boxℤ plus tabulate total every same kinds.firstOf frozenToZero
+unfolding replayText drainsText totalsFrom withFrame differing frameCall captureNumber numberBeforeFrames framesNumber frameNumber framesIn frameAt isCapture signed16 numberOf drainText lineText spaced natText digitsIn refusal exponentTo atMost llrsInRange decodeNumber decodeAnswer decodeCheck decodeCycles isPlan pathCuts oneCut cutsOfKindsBy cyclesBy plannerBy levelsBy cutAtBy kindOf decodeScan decided hardWord scan sweeps visit toNode toRight toLeft start leafValue frozenZero payloadOf place unfrozen transform times polarMatrix kronecker kernel box boxℤ plus tabulate total every same kinds.firstOf frozenToZero
 one-frame = refl

@@ -11,37 +11,41 @@ use lib.Seq.{length-take-le, take-all}
 use Rattle.model.specs.Lists.{tabulate, atMost, part, over}
 use Rattle.model.specs.Encoding.{maxMask}
 use Rattle.model.specs.Refusals.{refusal, row-1, row-2, exponent, planNumber, planBytes}
-use Rattle.model.specs.Captures.{CaptureFrame, totalsOf, maxCapture, frameSize, isCapture, row-14, maskIn, maskSize, framesIn, framesNumber, numberBeforeFrames, captureNumber}
+use Rattle.model.specs.Captures.{CaptureFrame, Totals, totalsOf, maxCapture, frameSize, isCapture, maskIn, maskSize, framesTo, framesIn, framesNumber, numberBeforeFrames, captureNumber}
 use Rattle.model.proofs.Lists.{true-T, getD-tabulate}
 use Rattle.model.proofs.Refusals.{length-small}
 use Rattle.planner.proofs.Results.{passed, front}
 use Rattle.printer.specs.Text.{noText}
 use Rattle.printer.specs.Put.{Printed}
 use Rattle.printer.proofs.Whole.{reprinted}
-use Rattle.drains.specs.Text.{drainsText}
+use Rattle.drains.specs.Text.{drainLine, drainsText, totalsAt}
 use Rattle.captures.specs.Layouts.{LaidOut}
 use Rattle.captures.proofs.Laws.{laid-capture, laid-whole, laid-frames, laid-small, laid-mask, laid-frames-in}
 use Rattle.frames.specs.Frames.{Planned}
-use Rattle.replay.specs.Totals.{framesTo, Holds}
-use Rattle.replay.specs.Program.{totalsText, linesFrom, linesText, captureText, totalsNumber, TotalsWritten, replayText, maxReplay, Replayed, numberFromMask}
+use Rattle.replay.specs.Totals.{Holds}
+use Rattle.replay.specs.Program.{linesText, captureText, totalsNumber, TotalsWritten, replayText, maxReplay, Replayed, numberFromMask}
 
 -- ---- lines
 at : {l : List ℕ} (f : ℕ → ℕ) (d : ℕ) → l ≡ tabulate 64 f → d < 64 → getD l d 0 ≡ f d
 at f d e lt = ap (λ (v : List ℕ). getD v d 0) e ∙ getD-tabulate 64 f d 0 lt
 
-pub lines-from : (mask : List ℕ) (fs : List CaptureFrame) {a b c e : List ℕ} → Holds mask fs a b c e → (k d : ℕ) → d + k ≤ 64 → drainsText k d a b c e ≡ linesFrom k d mask fs
-unfolding drainsText linesFrom
-lines-from mask fs h zero d le = refl
-lines-from mask fs {a} {b} {c} {e} h (suc k) d le =
-    let lt : d < 64 = omega arith in
-    ap₂ (λ (x y : List ℕ). x ++ y)
-    (λ i. totalsText d (record {
+-- two functions that agree below 64 give the same lines
+same-lines : (s t : ℕ → Totals) → ((d : ℕ) → d < 64 → s d ≡ t d) → (k d : ℕ) → d + k ≤ 64 → drainsText k d s ≡ drainsText k d t
+unfolding drainsText
+same-lines s t e zero d le = refl
+same-lines s t e (suc k) d le =
+    ap₂ (λ (x : Totals) (y : List ℕ). drainLine d (x .frames) (x .checks) (x .differ) (x .cycles) ++ y) (e d (omega arith)) (same-lines s t e k (suc d) (omega arith))
+
+pub held-lines : {mask : List ℕ} {fs : List CaptureFrame} {a b c e : List ℕ} → Holds mask fs a b c e → drainsText 64 0 (totalsAt a b c e) ≡ linesText mask fs
+held-lines {mask} {fs} {a} {b} {c} {e} h = same-lines (totalsAt a b c e) (λ d. totalsOf mask d fs) each 64 0 (omega arith)
+  where
+    each : (d : ℕ) → d < 64 → totalsAt a b c e d ≡ totalsOf mask d fs
+    each d lt = λ i. record {
       frames = at (λ n. totalsOf mask n fs .frames) d (h .frames-are) lt i;
       checks = at (λ n. totalsOf mask n fs .checks) d (h .checks-are) lt i;
       differ = at (λ n. totalsOf mask n fs .differ) d (h .differ-are) lt i;
       cycles = at (λ n. totalsOf mask n fs .cycles) d (h .cycles-are) lt i;
-    }))
-    (lines-from mask fs h k (suc d) (omega arith))
+    }
 
 -- ---- from the mask's tests on
 own : List ℕ → ℕ
@@ -78,10 +82,6 @@ module _ (mask : List ℕ) where
       record { sized = p .0; bits = true-T (atMost maxMask mask) (p .1); plan-is = front mask plan z out e }
 
 -- ---- the whole
-pub layout-refused : (bytes : List ℕ) → isCapture bytes ≡ false → 14 ≡ captureNumber bytes
-unfolding captureNumber numberBeforeFrames refusal
-layout-refused bytes e = rw e
-
 layout-fits : (bytes : List ℕ) → isCapture bytes ≡ true → length (maskIn bytes) ≡ maskSize bytes → numberFromMask (maskIn bytes) (framesIn bytes) ≡ captureNumber bytes
 unfolding numberFromMask captureNumber numberBeforeFrames refusal
 layout-fits bytes e size = rw (e, size)
@@ -100,14 +100,6 @@ module _ {text out after : List ℕ} {end : ℕ} where
       let q : Printed text maxReplay out after end = reprinted e (omega arith) p in
       record { number-is = is; ends = rw (← is) (q .ends); bytes = rw (← is) (q .bytes); size = λ y. q .size }
 
-pub not-capture : (bytes : List ℕ) {number : ℕ} → number ≡ refusal (row-14 bytes ∷ []) → (number ≡ 0 → ⊥) → isCapture bytes ≡ false
-unfolding refusal
-not-capture bytes {number} e n = go (isCapture bytes) refl e
-  where
-    go : (b : Bool) → isCapture bytes ≡ b → number ≡ cond b 0 14 → isCapture bytes ≡ false
-    go true q e = absurd (n e)
-    go false q e = q
-
 -- the part of the capture that is handed on as the mask
 module _ (bytes : List ℕ) {number from size count : ℕ} (l : LaidOut bytes number from size count) (z : number ≡ 0) where
   abbrev slice : List ℕ
@@ -117,18 +109,18 @@ module _ (bytes : List ℕ) {number from size count : ℕ} (l : LaidOut bytes nu
   slice-part = ap (λ (n : ℕ). take n (drop from bytes)) (let e : from + size - from ≡ size = omega arith in e)
 
   slice-long : length slice ≡ size
-  slice-long = ap length slice-part ∙ length-take-le size (drop from bytes) (omega (arith, length-drop from bytes, laid-whole l z))
+  slice-long = ap length slice-part ∙ length-take-le size (drop from bytes) (omega (arith, length-drop from bytes, laid-whole bytes l z))
 
   slice-is : slice ≡ maskIn bytes
-  slice-is = slice-part ∙ laid-mask l z
+  slice-is = slice-part ∙ laid-mask bytes l z
 
   pub masked-asked : (count * frameSize (length slice) ≤ length bytes) × (length bytes ≤ maxCapture)
-  masked-asked = (omega (arith, ap (λ (n : ℕ). count * frameSize n) slice-long, laid-frames l z, laid-whole l z), laid-small l z)
+  masked-asked = (omega (arith, ap (λ (n : ℕ). count * frameSize n) slice-long, laid-frames bytes l z, laid-whole bytes l z), laid-small bytes l z)
 
   module _ {out after : List ℕ} {answer end : ℕ} where
     pub whole : (let fs = framesTo bytes (length slice) count in Replayed (numberFromMask slice fs) (linesText slice fs) out after answer end)
         → Replayed (captureNumber bytes) (captureText bytes) out after answer end
-    whole r = subst (λ (k : ℕ). Replayed k (captureText bytes) out after answer end) (layout-fits bytes (laid-capture l z) (ap length (sym slice-is) ∙ slice-long ∙ l .size-is z)) (subst₂ (λ (m : List ℕ) (fs : List CaptureFrame). Replayed (numberFromMask m fs) (linesText m fs) out after answer end) slice-is (ap (λ (n : ℕ). framesTo bytes n count) slice-long ∙ sym (laid-frames-in l z)) r)
+    whole r = subst (λ (k : ℕ). Replayed k (captureText bytes) out after answer end) (layout-fits bytes (laid-capture bytes l z) (ap length (sym slice-is) ∙ slice-long ∙ l .size-is z)) (subst₂ (λ (m : List ℕ) (fs : List CaptureFrame). Replayed (numberFromMask m fs) (linesText m fs) out after answer end) slice-is (ap (λ (n : ℕ). framesTo bytes n count) slice-long ∙ sym (laid-frames-in bytes l z)) r)
 
 -- ---- the program's text
 module _ (bytes : List ℕ) {out after : List ℕ} {number end : ℕ} (r : Replayed (captureNumber bytes) (captureText bytes) out after number end) where

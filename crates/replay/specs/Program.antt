@@ -1,26 +1,17 @@
 -- What a replay prints for a capture's bytes. Assumes nothing.
 use mathlib.Core.Path.{_≡_}
-use mathlib.Core.List.{List, [], _∷_, _++_}
-use Prim.Native.Nat.{ℕ, zero, suc, _≤_, min}
+use mathlib.Core.List.{List, [], _∷_}
+use Prim.Native.Nat.{ℕ, _≤_, min}
 use lib.ListN.{length, take}
 use Rattle.model.specs.Lists.{over}
 use Rattle.model.specs.Refusals.{refusal, row-1, row-2, row-11, accepted}
-use Rattle.model.specs.Captures.{CaptureFrame, Totals, totalsOf, drains, maskIn, framesIn, framesNumber, captureNumber}
+use Rattle.model.specs.Captures.{CaptureFrame, totalsOf, drains, maskIn, framesIn, framesNumber, captureNumber}
 use Rattle.printer.specs.Text.{noText}
-use Rattle.drains.specs.Text.{drainLine, maxDrainsText}
+use Rattle.drains.specs.Text.{drainsText, maxDrainsText}
 
--- a drain's line: none for a drain that does not occur
-abbrev pub totalsText : ℕ → Totals → List ℕ
-totalsText drain t = drainLine drain (t .frames) (t .checks) (t .differ) (t .cycles)
-
--- the lines of k drains from d on, in rising order
-unfoldable pub linesFrom : ℕ → ℕ → List ℕ → List CaptureFrame → List ℕ
-linesFrom zero d mask fs = []
-linesFrom (suc k) d mask fs = totalsText d (totalsOf mask d fs) ++ linesFrom k (suc d) mask fs
-
--- the lines of all drains, 0 to 63
+-- the lines of all drains, 0 to 63, by the totals of some frames
 abbrev pub linesText : List ℕ → List CaptureFrame → List ℕ
-linesText mask fs = linesFrom drains 0 mask fs
+linesText mask fs = drainsText drains 0 (λ d. totalsOf mask d fs)
 
 -- the lines of a capture
 abbrev pub captureText : List ℕ → List ℕ

@@ -1,10 +1,10 @@
 -- Totals in four lists, a drain at each place. Assumes nothing.
 use mathlib.Core.Path.{_≡_}
 use mathlib.Core.List.{List}
-use Prim.Native.Nat.{ℕ, _+_, _*_, _^_, _≤_}
+use Prim.Native.Nat.{ℕ, _+_, _^_, _≤_}
 use lib.ListN.{getD, set}
 use Rattle.model.specs.Lists.{tabulate}
-use Rattle.model.specs.Captures.{CaptureFrame, frameSize, frameAt, framesNumber, totalsOf}
+use Rattle.model.specs.Captures.{CaptureFrame, framesNumber, totalsOf}
 
 -- each total can grow by a 32-bit number
 pub record Free (totals : List ℕ) : Type 0 where
@@ -13,10 +13,6 @@ pub record Free (totals : List ℕ) : Type 0 where
 -- a drain's total has grown
 abbrev pub Adds : ℕ → ℕ → List ℕ → List ℕ → Type 0
 Adds drain amount before after = after ≡ set before drain (getD before drain 0 + amount)
-
--- the first frames of a capture
-abbrev pub framesTo : List ℕ → ℕ → ℕ → List CaptureFrame
-framesTo bytes N count = tabulate count (λ j. frameAt bytes N (j * frameSize N))
 
 -- the lists hold the totals of some frames
 pub record Holds (mask : List ℕ) (fs : List CaptureFrame) (frames checks differ cycles : List ℕ) : Type 0 where

@@ -9,10 +9,10 @@ use printer::print_refusal;
 ghost use mathlib.Core.Path.{_≡_};
 ghost use Prim.Native.Nat.{_+_, _*_, _≤_};
 ghost use lib.ListN.{length, replicate};
-ghost use Rattle.model.specs.Captures.{maxCapture, frameSize, captureNumber};
+ghost use Rattle.model.specs.Captures.{maxCapture, frameSize, framesTo, captureNumber};
 ghost use Rattle.frames.specs.Frames.{Planned};
 ghost use Rattle.printer.specs.Put.{Printed};
-ghost use Rattle.replay.specs.Totals.{Free, Adds, framesTo, Counted};
+ghost use Rattle.replay.specs.Totals.{Free, Adds, Counted};
 ghost use Rattle.replay.specs.Program.{numberFromMask, linesText, captureText, Replayed, TotalsWritten, replayText, maxReplay};
 
 // Drain numbers are below this.

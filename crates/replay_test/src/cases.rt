@@ -109,6 +109,11 @@ fn right_totals(case: usize, name: &[u8], capture: &[u8], text: Text, room: usiz
         return true;
     }
     print_mismatch(case, name, room, expected, got);
+    print_values(
+        b"expected number |, got ",
+        [number as usize, r.number as usize, 0, 0, 0, 0, 0, 0],
+    );
+    end_line();
     false
 }
 

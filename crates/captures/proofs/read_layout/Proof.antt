@@ -32,7 +32,7 @@ returns-3 c =
     let mask = first .before in
     let trailer = mask .before in
     let bytes = trailer .before .before .before .before .args .bytes .now in
-    laid bytes (right-length bytes (omega arith) (omega arith)) (c .layout-of .ensures) (trailer .is-trailer .ensures) (mask .number32-at .ensures) (first .number32-at2 .ensures)
+    laid bytes (right-length bytes (omega arith) (omega arith)) (c .layout-of .ensures) (trailer .has-signature .ensures) (mask .number32-at .ensures) (first .number32-at2 .ensures)
     (count .number32-at3 .ensures)
 
 pub read-layout-spec : {M : Type 1} → statement M

@@ -3,11 +3,12 @@
 use mathlib.Core.Path.{sym, ap}
 use Prim.Native.Nat.{ℕ, _+_, _-_, _*_, _≤_, _<_}
 use native.Mathlib.Omega.{arith}
-use lib.ListN.{length, getD, length-append}
+use lib.ListN.{length, length-append}
+use Rattle.model.specs.Captures.{Totals}
 use Rattle.printer.proofs.Puts.{Going, going-start, going-on, going-end}
 use Rattle.printer.proofs.Whole.{printed}
-use Rattle.drains.specs.Text.{drainsText, maxDrainLine, maxDrainsText}
-use Rattle.drains.proofs.Lines.{occurring, drainsFrom, drains-on, drains-end}
+use Rattle.drains.specs.Text.{drainLine, totalsAt, maxDrainLine, maxDrainsText}
+use Rattle.drains.proofs.Lines.{drainsFrom, drains-on, drains-end}
 use borrow.Author.Needs.{needs}
 use Rattle.drains.proofs.print_drains.Statement.{statement}
 use Rattle.drains.proofs.print_drains.Tie as tie
@@ -15,8 +16,8 @@ use Rattle.drains.proofs.print_drains.Tie as tie
 abbrev Inv-loop : tie.InvT-loop
 Inv-loop frames checks differ cycles out₀ e₀ d₀ out e d =
     (d ≤ 64)
-    × Going (drainsText 64 0 frames checks differ cycles) out₀ 0 (drainsFrom frames checks differ cycles d) out e
-    × (length (drainsText 64 0 frames checks differ cycles) ≤ maxDrainLine * d + length (drainsFrom frames checks differ cycles d))
+    × Going (drainsFrom (totalsAt frames checks differ cycles) 0) out₀ 0 (drainsFrom (totalsAt frames checks differ cycles) d) out e
+    × (length (drainsFrom (totalsAt frames checks differ cycles) 0) ≤ maxDrainLine * d + length (drainsFrom (totalsAt frames checks differ cycles) d))
 
 abbrev μ-loop : tie.MeasureT-loop
 μ-loop frames checks differ cycles out₀ e₀ d₀ out e d = 64 - d
@@ -70,9 +71,10 @@ loop-again c =
     let s = l .before .before .args in
     let d = l .loop .d in
     let h : d < 64 = omega (arith, i .loop-test .taken) in
-    let e = drains-on (s .frames .now) (s .checks .now) (s .differ .now) (s .cycles .now) d h in
-    let line = occurring d (getD (s .frames .now) d 0) (getD (s .checks .now) d 0) (getD (s .differ .now) d 0) (getD (s .cycles .now) d 0) in
-    let rest = drainsFrom (s .frames .now) (s .checks .now) (s .differ .now) (s .cycles .now) (d + 1) in (
+    let totals : ℕ → Totals = totalsAt (s .frames .now) (s .checks .now) (s .differ .now) (s .cycles .now) in
+    let e = drains-on totals d h in
+    let line = drainLine d (totals d .frames) (totals d .checks) (totals d .differ) (totals d .cycles) in
+    let rest = drainsFrom totals (d + 1) in (
       omega (arith, h),
       going-on (l .loop .inv .1) {a = line} rest e (p .put-occurring .ensures .0),
       omega (arith, l .loop .inv .2, p .put-occurring .ensures .1, sym (ap length e), length-append line rest),
@@ -85,7 +87,7 @@ returns : tie.Need-returns Inv-loop μ-loop
 returns c =
     let l = c .before in
     let a = l .before .before .args in
-    let e = drains-end (a .frames .now) (a .checks .now) (a .differ .now) (a .cycles .now) (l .loop .d) (omega (arith, c .loop-test .left)) in
+    let e = drains-end (totalsAt (a .frames .now) (a .checks .now) (a .differ .now) (a .cycles .now)) (l .loop .d) (omega (arith, c .loop-test .left)) in
     printed maxDrainsText (omega (arith, l .loop .inv .0, l .loop .inv .2, ap length e)) (going-end (l .loop .inv .1) e)
 
 pub print-drains-spec : {M : Type 1} → statement M

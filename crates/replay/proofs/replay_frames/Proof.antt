@@ -7,9 +7,9 @@ use native.Mathlib.Omega.{arith}
 use borrow.Author.Needs.{needs}
 use lib.IntN.{ℤ, pos}
 use lib.ListN.{length, length-replicate}
-use Rattle.model.specs.Captures.{CaptureFrame, frameSize, frameAt, framesNumber}
+use Rattle.model.specs.Captures.{CaptureFrame, frameSize, frameAt, framesTo, framesNumber}
 use Rattle.model.proofs.Refusals.{length-small}
-use Rattle.replay.specs.Totals.{framesTo, Holds}
+use Rattle.replay.specs.Totals.{Holds}
 use Rattle.replay.proofs.Adding.{Small, holds-next, held-long, drain-small, holds-none, none-number, later, small-none, few-frames, small-free, small-next, frames-last, first-refused, none-refused}
 use Rattle.replay.proofs.replay_frames.Statement.{statement}
 use Rattle.replay.proofs.replay_frames.Tie as tie

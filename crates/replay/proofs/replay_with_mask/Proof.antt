@@ -7,10 +7,9 @@ use borrow.Author.Needs.{needs}
 use lib.ListN.{length, replicate, length-replicate}
 use lib.Seq.{length-take-le}
 use Rattle.model.specs.Refusals.{planNumber}
-use Rattle.model.specs.Captures.{CaptureFrame}
+use Rattle.model.specs.Captures.{CaptureFrame, framesTo}
 use Rattle.planner.proofs.Results.{passed}
-use Rattle.replay.specs.Totals.{framesTo}
-use Rattle.replay.proofs.Texts.{mask-refused, mask-fits, lines-from, planned, nothing-left, lines-left}
+use Rattle.replay.proofs.Texts.{mask-refused, mask-fits, held-lines, planned, nothing-left, lines-left}
 use Rattle.replay.proofs.replay_with_mask.Statement.{statement}
 use Rattle.replay.proofs.replay_with_mask.Tie as tie
 
@@ -60,7 +59,7 @@ returns-3 c =
     let s = e .before .before .before .before .before .before .before .before in
     let told = c .before .before .before .before .before .before .before .before .before .replay-frames .ensures in
     let z : c .before .before .before .before .before .before .before .before .before .replay-frames .result ≡ 0 = omega (arith, c .before .before .before .before .before .before .before .before .if2 .left) in
-    lines-left (sym z ∙ told .number-is ∙ mask-fits (s .args .mask .now) (frames s) (length zeros) room (number e)) (lines-from (s .args .mask .now) (frames s) (told .held z) 64 0 (omega arith)) (c .before .before .print-drains .ensures)
+    lines-left (sym z ∙ told .number-is ∙ mask-fits (s .args .mask .now) (frames s) (length zeros) room (number e)) (held-lines (told .held z)) (c .before .before .print-drains .ensures)
 
 pub replay-with-mask-spec : {M : Type 1} → statement M
 replay-with-mask-spec =
