@@ -25,6 +25,10 @@ pub mod RowWeights
 pub mod Ranks
 pub mod RankOrder
 pub mod RankTable
+pub mod WordWeights
+pub mod LeastWeight
+pub mod LargestWeight
+pub mod Distance
 pub mod Theorems
 pub mod Frames
 pub mod CaptureExamples

@@ -1,15 +1,15 @@
--- A payload placed and read back is the payload; a placed payload has bits, and zeros at the frozen positions. Assumes nothing.
-use mathlib.Core.Path.{_≡_, refl, _∙_, ap}
+-- A payload placed and read back is the payload; a placed payload has bits, and zeros at the frozen positions; it is zero only where the payload is. Assumes nothing.
+use mathlib.Core.Path.{_≡_, refl, sym, ap, ap₂, _∙_, subst}
 use mathlib.Core.Bool.{Bool, true, false, cond, _&&_}
 use mathlib.Core.List.{List, [], _∷_}
 use Prim.Native.Nat.{ℕ, zero, suc, _+_, _≤_, zero-le}
 use native.Mathlib.Nat.{zero-add}
 use native.Mathlib.Omega.{arith}
-use lib.Dec.{T, eqb}
+use lib.Dec.{T, eqb, leb, leb·zero}
 use lib.ListN.{getD, drop, length}
 use Rattle.model.specs.Lists.{atMost, bit}
 use Rattle.model.specs.Encoding.{isUnfrozen, unfrozen, place, payloadOf, frozenZero}
-use Rattle.model.proofs.Lists.{cond-both, at-most-at, at-most-drop}
+use Rattle.model.proofs.Lists.{cond-both, at-most-at, at-most-drop, and-l, and-r, and-T, true-T, T-true, absurd-bool}
 
 pub length-place : (mask bits : List ℕ) → length (place mask bits) ≡ length mask
 unfolding place
@@ -78,3 +78,46 @@ place-bits [] bits a k = zero-le
 place-bits (m ∷ mask) bits a zero = cond-both (λ (u : List ℕ). getD u 0 0 ≤ 1) (eqb m 0) (at-most-at 1 bits 0 a) zero-le
 place-bits (m ∷ mask) bits a (suc k) =
     cond-both (λ (u : List ℕ). getD u (suc k) 0 ≤ 1) (eqb m 0) (place-bits mask (drop 1 bits) (at-most-drop 1 1 bits a) k) (place-bits mask bits a k)
+
+-- a list with zeros at the frozen positions is placed back from its payload
+pub place-again : (mask u : List ℕ) → length u ≡ length mask → ((k : ℕ) → eqb (getD mask k 0) 0 ≡ false → getD u k 0 ≡ 0) → place mask (payloadOf mask u) ≡ u
+unfolding place payloadOf
+place-again [] [] l z = refl
+place-again [] (x ∷ u) l z = let f : ⊥ = omega arith in absurd f
+place-again (m ∷ mask) [] l z = let f : ⊥ = omega arith in absurd f
+place-again (m ∷ mask) (x ∷ u) l z = go (eqb m 0) (z 0) (place-again mask u (omega arith) (λ k. z (suc k)))
+  where
+    go : (b : Bool) → (b ≡ false → x ≡ 0) → place mask (payloadOf mask u) ≡ u
+        → (let bits : List ℕ = cond b (x ∷ payloadOf mask u) (payloadOf mask u) in
+        cond b (getD bits 0 0 ∷ place mask (drop 1 bits)) (0 ∷ place mask bits)) ≡ x ∷ u
+    go true h e = ap {B = List ℕ} (λ xs. x ∷ xs) e
+    go false h e = ap₂ {C = List ℕ} (λ (x : ℕ) (xs : List ℕ). x ∷ xs) (sym (h refl)) e
+
+-- a payload's numbers are among those it was read from
+pub payload-most : (m : ℕ) (mask u : List ℕ) → T (atMost m u) → T (atMost m (payloadOf mask u))
+unfolding payloadOf atMost
+payload-most m [] u a = tt
+payload-most m (b ∷ mask) [] a = cond-both (λ (l : List ℕ). T (atMost m l)) (eqb b 0) (and-T (leb 0 m) (atMost m (payloadOf mask [])) (true-T (leb 0 m) (leb·zero m)) (payload-most m mask [] tt)) (payload-most m mask [] tt)
+payload-most m (b ∷ mask) (x ∷ u) a =
+    let r = payload-most m mask u (and-r (leb x m) (atMost m u) a) in
+    cond-both (λ (l : List ℕ). T (atMost m l)) (eqb b 0) (and-T (leb x m) (atMost m (payloadOf mask u)) (and-l (leb x m) (atMost m u) a) r) r
+
+-- a payload of zeros is placed as zeros
+pub place-none : (mask bits : List ℕ) → T (atMost 0 bits) → (k : ℕ) → getD (place mask bits) k 0 ≤ 0
+unfolding place
+place-none [] bits a k = zero-le
+place-none (m ∷ mask) [] a zero = cond-both (λ (u : List ℕ). getD u 0 0 ≤ 0) (eqb m 0) zero-le zero-le
+place-none (m ∷ mask) (x ∷ bits) a zero = cond-both (λ (u : List ℕ). getD u 0 0 ≤ 0) (eqb m 0) (at-most-at 0 (x ∷ bits) 0 a) zero-le
+place-none (m ∷ mask) [] a (suc k) = cond-both (λ (u : List ℕ). getD u (suc k) 0 ≤ 0) (eqb m 0) (place-none mask [] a k) (place-none mask [] a k)
+place-none (m ∷ mask) (x ∷ bits) a (suc k) =
+    cond-both (λ (u : List ℕ). getD u (suc k) 0 ≤ 0) (eqb m 0) (place-none mask bits (unfold atMost in and-r (leb x 0) (atMost 0 bits) a) k) (place-none mask (x ∷ bits) a k)
+
+-- a test from which a failed one follows fails
+not-none : (a b : Bool) → (T a → T b) → b ≡ false → a ≡ false
+not-none true b f e = let t : T b = f tt in absurd (absurd-bool b (T-true b t) e)
+not-none false b f e = refl
+
+-- a payload that is not all zero is not placed as zeros
+pub place-some : (mask bits : List ℕ) → length bits ≡ unfrozen mask → atMost 0 bits ≡ false → atMost 0 (place mask bits) ≡ false
+place-some mask bits l e =
+    not-none (atMost 0 (place mask bits)) (atMost 0 bits) (λ t. subst (λ (x : List ℕ). T (atMost 0 x)) (place-back mask bits l) (payload-most 0 mask (place mask bits) t)) e

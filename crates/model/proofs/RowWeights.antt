@@ -17,6 +17,7 @@ use Rattle.model.proofs.Lists.{double, getD-tabulate, total-ext, total-
 use Rattle.model.proofs.Others.{eqb-add}
 use Rattle.model.proofs.Transform.{add-monoid, transform-zero, length-transform, transform-halves, upper, lower, transform-bit}
 use Rattle.model.specs.Masks.{weight, matrixRow}
+use Rattle.model.specs.Distance.{oneAt}
 
 -- ---- weights of lists
 weight-append : (a b : List ℕ) → weight (a ++ b) ≡ weight a + weight b
@@ -27,7 +28,8 @@ weight-append (x ∷ a) b = go (bit (eqb x 1)) (weight a) (weight b) (weight-app
     go : (x y z : ℕ) {w : ℕ} → w ≡ y + z → x + w ≡ x + y + z
     go x y z e = omega arith
 
-abbrev one : ℕ → ℕ
+-- a bit as its weight
+abbrev pub one : ℕ → ℕ
 one x = bit (eqb x 1)
 
 weight-tabulate : (n : ℕ) (f : ℕ → ℕ) → weight (tabulate n f) ≡ total _+_ 0 n (λ k. one (f k))
@@ -40,7 +42,7 @@ unfolding weight total
 weight-list [] = refl
 weight-list (x ∷ w) = ap (λ (y : ℕ). one x + y) (weight-list w)
 
-weight-word : (t : ℕ) (u : List ℕ) → weight (transform t u) ≡ total _+_ 0 (2 ^ t) (λ k. one (getD (transform t u) k 0))
+pub weight-word : (t : ℕ) (u : List ℕ) → weight (transform t u) ≡ total _+_ 0 (2 ^ t) (λ k. one (getD (transform t u) k 0))
 weight-word t u = weight-list (transform t u) ∙ ap (λ (n : ℕ). total _+_ 0 n (λ k. one (getD (transform t u) k 0))) (length-transform t u)
 
 -- ---- ones of an index of the second half
@@ -56,19 +58,19 @@ ones-high t p h = ap ones (turn p (2 ^ t)) ∙ ones-cat t 1 p h ∙ up (ones p)
 
 -- ---- one step of the transform
 module _ (t : ℕ) (u : List ℕ) where
-  weight-halves : weight (transform (suc t) u) ≡ total _+_ 0 (2 ^ t) (λ k. one (upper t u k ⊕ lower t u k)) + weight (transform t (drop (2 ^ t) u))
+  pub weight-halves : weight (transform (suc t) u) ≡ total _+_ 0 (2 ^ t) (λ k. one (upper t u k ⊕ lower t u k)) + weight (transform t (drop (2 ^ t) u))
   weight-halves =
       ap weight (transform-halves t u) ∙ weight-append (tabulate (2 ^ t) (λ k. upper t u k ⊕ lower t u k)) (transform t (drop (2 ^ t) u))
       ∙ ap (λ (x : ℕ). x + weight (transform t (drop (2 ^ t) u))) (weight-tabulate (2 ^ t) (λ k. upper t u k ⊕ lower t u k))
 
-  upper-bit : (k : ℕ) → k < 2 ^ t → upper t u k ≤ 1
+  pub upper-bit : (k : ℕ) → k < 2 ^ t → upper t u k ≤ 1
   upper-bit k h = transform-bit t (take (2 ^ t) u) k h
 
-  lower-bit : (k : ℕ) → k < 2 ^ t → lower t u k ≤ 1
+  pub lower-bit : (k : ℕ) → k < 2 ^ t → lower t u k ≤ 1
   lower-bit k h = transform-bit t (drop (2 ^ t) u) k h
 
   -- a left half that comes to nothing: the right half twice
-  weight-right : ((k : ℕ) → k < 2 ^ t → upper t u k ≡ 0) → weight (transform (suc t) u) ≡ weight (transform t (drop (2 ^ t) u)) + weight (transform t (drop (2 ^ t) u))
+  pub weight-right : ((k : ℕ) → k < 2 ^ t → upper t u k ≡ 0) → weight (transform (suc t) u) ≡ weight (transform t (drop (2 ^ t) u)) + weight (transform t (drop (2 ^ t) u))
   weight-right z =
       weight-halves ∙ ap (λ (x : ℕ). x + weight (transform t (drop (2 ^ t) u)))
       (total-ext _+_ 0 add-monoid (2 ^ t) (λ k. one (upper t u k ⊕ lower t u k)) (λ k. one (lower t u k)) (λ k h. plain (upper t u k) (lower t u k) (z k h) (lower-bit k h))
@@ -97,7 +99,7 @@ module _ (t : ℕ) (u : List ℕ) where
           same x y e h = omega arith
 
 -- nothing comes of nothing
-transform-none : (t : ℕ) (u : List ℕ) → ((i : ℕ) → i < 2 ^ t → getD u i 0 ≡ 0) → (k : ℕ) → k < 2 ^ t → getD (transform t u) k 0 ≡ 0
+pub transform-none : (t : ℕ) (u : List ℕ) → ((i : ℕ) → i < 2 ^ t → getD u i 0 ≡ 0) → (k : ℕ) → k < 2 ^ t → getD (transform t u) k 0 ≡ 0
 unfolding transform times
 transform-none t u z k h =
     getD-tabulate (2 ^ t) (λ j. total _+_ 0 (2 ^ t) (λ i. getD u i 0 * polarMatrix t i j) % 2) k 0 h
@@ -191,16 +193,12 @@ unit-row n i h u U j l =
         go true e = refl
         go false e = ap (λ (x : ℕ). x * polarMatrix n k j) e ∙ zero-mul (polarMatrix n k j)
 
--- 1 at the position i of n
-abbrev pub unit : ℕ → ℕ → List ℕ
-unit n i = tabulate (2 ^ n) (λ k. bit (eqb k i))
-
-pub unit-is : (n i : ℕ) → Unit n i (unit n i)
+pub unit-is : (n i : ℕ) → Unit n i (oneAt n i)
 unit-is n i k h = getD-tabulate (2 ^ n) (λ k. bit (eqb k i)) k 0 h
 
 -- The weight of row i of the polar matrix is 2 to the power of the ones of i.
 pub row-weight : (n i : ℕ) → i < 2 ^ n → weight (matrixRow n i) ≡ 2 ^ ones i
 row-weight n i h =
     weight-tabulate (2 ^ n) (polarMatrix n i)
-    ∙ total-ext _+_ 0 add-monoid (2 ^ n) (λ j. one (polarMatrix n i j)) (λ j. one (getD (transform n (unit n i)) j 0)) (λ j l. ap one (sym (unit-row n i h (unit n i) (unit-is n i) j l)))
-    ∙ sym (weight-word n (unit n i)) ∙ unit-weight n i h (unit n i) (unit-is n i)
+    ∙ total-ext _+_ 0 add-monoid (2 ^ n) (λ j. one (polarMatrix n i j)) (λ j. one (getD (transform n (oneAt n i)) j 0)) (λ j l. ap one (sym (unit-row n i h (oneAt n i) (unit-is n i) j l)))
+    ∙ sym (weight-word n (oneAt n i)) ∙ unit-weight n i h (oneAt n i) (unit-is n i)

@@ -1,10 +1,11 @@
 -- The theorems over document 01's definitions, for every N = 2 ^ n, mask, plan, number of sweeps k and list L of LLRs.
 -- The other files of this folder lead to them. Assumes nothing.
-use mathlib.Core.Path.{_≡_, refl, sym, ap, _∙_}
+use mathlib.Core.Path.{_≡_, refl, sym, ap, _∙_, subst}
 use mathlib.Core.Logic.{_⊎_, inl, inr}
-use mathlib.Core.Bool.{true, false, _&&_}
+use mathlib.Core.Bool.{true, false, not, _&&_}
 use mathlib.Core.List.{List, [], _∷_, map}
 use Prim.Native.Nat.{ℕ, suc, _*_, _-_, _^_, _<_, _≤_}
+use native.Mathlib.Nat.{le-trans}
 use native.Mathlib.Omega.{arith}
 use lib.Count.{ones}
 use lib.Dec.{T}
@@ -13,7 +14,7 @@ use lib.ListN.{length, getD}
 use lib.Pow.{pow-mono}
 use Rattle.model.specs.Lists.{atMost}
 use Rattle.model.specs.Soft.{Soft, finite, _at_, plus, maxLlr}
-use Rattle.model.specs.Encoding.{Mask, isUnfrozen, unfrozen, encode}
+use Rattle.model.specs.Encoding.{PlainMask, Mask, isUnfrozen, unfrozen, place, encode}
 use Rattle.model.specs.Scan.{Tree, message, start, visit, sweeps, scan, decided, decodeScan, SignsOf}
 use Rattle.model.specs.Plans.{oneCut, cutsOfKinds, wellCut, Allowed, leafOnly, walk, walkBy, planned, Agree, Stays, cycles, cyclesBy, plannerPlan, cutsBelow, counts, plannedBy, cutsOfKindsBy, plannerBy}
 use Rattle.model.specs.Kinds.{Kind, order, fits, kindBy, ownCycles, shortcut}
@@ -22,6 +23,7 @@ use Rattle.model.specs.Scale.{scaledAll}
 use Rattle.model.specs.Refusals.{refusal, row-1, row-2, row-4, row-7, DecodeCall, exponent, decodeNumber, decodeAnswer, decodeCheck, decodeCycles}
 use Rattle.model.specs.Captures.{isCapture, maskSize, maskIn, frameSize, frameCount, CaptureFrame, frameAt, frameNumber, captureNumber, frameCall, differing, withFrame, totalsOf, sumOver}
 use Rattle.model.specs.Masks.{weight, matrixRow, ranksBefore, weightMask, InRankOrder}
+use Rattle.model.specs.Distance.{UnfrozenAt, AtLeast, LeastWeight, leastRow, oneAt, single, hasDistance, noMask}
 use Rattle.model.specs.Bounds.{SmallAll, Under, AllUnder, InRange, limit, cap}
 use Rattle.model.proofs.Shortcuts.{sound-start}
 use Rattle.model.proofs.Paths.{wellCut-test, allowed-cuts}
@@ -37,6 +39,9 @@ use Rattle.model.proofs.Captures.{layout-refused, drain-over, good-mask
 use Rattle.model.proofs.RowWeights.{row-weight}
 use Rattle.model.proofs.RankOrder.{weight-made, weight-unfrozen, no-fewer-ones}
 use Rattle.model.proofs.RankTable.{entry-once, entry-order}
+use Rattle.model.proofs.LeastWeight.{an-open, least-le, least-at, placed, single-weight, word-bound, least-weight}
+use Rattle.model.proofs.LargestWeight.{weight-best, row-atleast}
+use Rattle.model.proofs.Distance.{has-says, says-has, no-mask-says, says-no-mask, none-exact}
 use Rattle.model.proofs.Bounds.{within-sweeps, within-start, within-all, within-held, held-sweeps, in-range, soft-under, under-plus, under-mono, cap-limit}
 
 -- ---- 1. Every accepted decode, whichever allowed plan it is given, equals SCAN walked to the last leaf.
@@ -238,10 +243,49 @@ pub table-order : (table : List ℕ) → InRankOrder table → (p q : ℕ) → p
 table-order = entry-order
 
 -- The mask by row weight has K unfrozen positions.
-pub first-unfrozen : (n K : ℕ) → K ≤ 2 ^ n → Mask n (weightMask n K) × (unfrozen (weightMask n K) ≡ K)
+pub first-unfrozen : (n K : ℕ) → K ≤ 2 ^ n → PlainMask n (weightMask n K) × (unfrozen (weightMask n K) ≡ K)
 first-unfrozen n K few = (weight-made n K, weight-unfrozen n K few)
 
 -- An unfrozen position's row has no less weight than a frozen one's.
 pub heavier-rows : (n K i j : ℕ) → i < 2 ^ n → j < 2 ^ n → isUnfrozen (getD (weightMask n K) i 0) ≡ true → isUnfrozen (getD (weightMask n K) j 0) ≡ false
     → weight (matrixRow n j) ≤ weight (matrixRow n i)
 heavier-rows n K i j I J a b = rw (row-weight n j J, row-weight n i I) (pow-mono (no-fewer-ones n K i j I J a b))
+
+-- ---- 9. Least weights, and a mask for a wanted distance. Masks are of bytes 0 and 1.
+
+-- For every mask with K at least 1 the least weight of the words of its non-zero payloads is the least of 2 to the power of the index's ones over its
+-- unfrozen positions.
+pub least-weights : (n : ℕ) (mask : List ℕ) → PlainMask n mask → 1 ≤ unfrozen mask → LeastWeight n mask (leastRow n mask)
+least-weights = least-weight
+
+-- That least is at most 2 to the power of the ones of each unfrozen position, and of one of them it is just that.
+pub least-row : (n : ℕ) (mask : List ℕ) → PlainMask n mask → 1 ≤ unfrozen mask
+    → ((i : ℕ) → UnfrozenAt n mask i → leastRow n mask ≤ 2 ^ ones i) × ((i : ℕ) × UnfrozenAt n mask i × (leastRow n mask ≡ 2 ^ ones i))
+least-row n mask M k = let o = an-open n mask (M .sized) k in (λ i p. least-le n mask i p, least-at n mask (o .0) (o .1))
+
+-- The payload that sets the unfrozen position i alone is placed there, and its word has 2 to the power of the ones of i ones.
+pub single-word : (n : ℕ) (mask : List ℕ) → PlainMask n mask → (i : ℕ) → UnfrozenAt n mask i
+    → (place mask (single n mask i) ≡ oneAt n i) × (weight (encode n mask (single n mask i)) ≡ 2 ^ ones i)
+single-word n mask M i o = (placed n mask M i o, single-weight n mask M i o)
+
+-- The call's tests say what the request says: of every non-zero payload ..
+pub distance-says : (n : ℕ) (mask : List ℕ) (d : ℕ) → (T (hasDistance n mask d) → AtLeast n mask d) × (AtLeast n mask d → T (hasDistance n mask d))
+distance-says n mask d = (has-says n mask d, says-has n mask d)
+
+-- .. and of every mask of N and K.
+pub none-says : (n K d : ℕ)
+    → (T (noMask n K d) → (mask : List ℕ) → PlainMask n mask → unfrozen mask ≡ K → AtLeast n mask d → ⊥)
+    × (((mask : List ℕ) → PlainMask n mask → unfrozen mask ≡ K → AtLeast n mask d → ⊥) → T (noMask n K d))
+none-says n K d = (no-mask-says n K d, says-no-mask n K d)
+
+module _ (n K : ℕ) (one : 1 ≤ K) (few : K ≤ 2 ^ n) where
+  -- The mask by weight has the largest least weight among all masks of that N and K.
+  pub weight-largest : (mask : List ℕ) → PlainMask n mask → unfrozen mask ≡ K → (w v : ℕ) → LeastWeight n mask w → LeastWeight n (weightMask n K) v → w ≤ v
+  weight-largest mask M u w v a b =
+      le-trans (row-atleast n mask w M (omega arith) (a .bound))
+      (le-trans (weight-best n K one few mask M u)
+      (subst (λ (x : ℕ). leastRow n (weightMask n K) ≤ x) (b .reached) (word-bound n (weightMask n K) (weight-made n K) (b .payload) (b .nonzero))))
+
+  -- So no mask of that N and K has the property exactly where the mask by weight does not have it.
+  pub none-exactly : (d : ℕ) → noMask n K d ≡ not (hasDistance n (weightMask n K) d)
+  none-exactly d = none-exact n K d one few

@@ -46,6 +46,11 @@ pub record Mask (n : ℕ) (mask : List ℕ) : Type 0 where
   pub sized : length mask ≡ 2 ^ n
   pub bytes : T (atMost maxMask mask)
 
+-- a mask of 2 ^ n bytes 0 and 1: its frozen positions are frozen to zero
+pub record PlainMask (n : ℕ) (mask : List ℕ) : Type 0 where
+  pub sized : length mask ≡ 2 ^ n
+  pub bytes : T (atMost 1 mask)
+
 -- a mask byte: 1 frozen, 0 unfrozen
 abbrev pub isUnfrozen : ℕ → Bool
 isUnfrozen m = eqb m 0
