@@ -1,4 +1,4 @@
--- What the loop over the table counts and writes: place by place, entries that are N or more skipped. Assumes nothing.
+-- What the loops over the table count and write: place by place, entries that are N or more skipped. Assumes nothing.
 use mathlib.Core.Path.{_≡_, refl, sym, ap, _∙_}
 use mathlib.Core.Bool.{Bool, true, false}
 use mathlib.Core.List.{List, _++_}
@@ -14,7 +14,7 @@ use Rattle.model.specs.Lists.{tabulate, total, bit, over}
 use Rattle.model.proofs.Lists.{length-tabulate, getD-tabulate, total-ext, total-none, total-op}
 use Rattle.model.specs.Masks.{ranksBefore, ahead, weightByte}
 use Rattle.model.proofs.Transform.{add-monoid}
-use Rattle.model.proofs.Sums.{sum-most, total-suc, bit-yes, bit-no}
+use Rattle.model.proofs.Sums.{sum-most, sum-ones, total-suc, bit-yes, bit-no}
 use Rattle.model.proofs.RankTable.{ahead-same, place-below, place-before}
 
 one-place : (N p : ℕ) → total _+_ 0 N (λ j. bit (eqb j p)) ≡ bit (ltb p N)
@@ -41,6 +41,21 @@ unfolding seenAt
 seen-most N r = sum-most N (λ j. ltb (ahead 1024 j) r)
 
 module _ (N : ℕ) (few : N ≤ 1024) where
+  seen-all : (r : ℕ) → 1024 ≤ r → seenAt N r ≡ N
+  unfolding seenAt
+  seen-all r h =
+      total-ext _+_ 0 add-monoid N (λ j. bit (ltb (ahead 1024 j) r)) (λ j. 1)
+      (λ j J. bit-yes (ltb (ahead 1024 j) r) (lt-ltb (ahead 1024 j) r (omega (arith, place-below 1024 j (omega arith)))))
+      ∙ sum-ones N
+
+  -- where fewer than all positions were seen, the table has more of them
+  pub places-left : (seen r : ℕ) → seen < N → seen ≡ seenAt N r → r < 1024
+  places-left seen r h e = go (decLt r 1024)
+    where
+      go : Dec (r < 1024) → r < 1024
+      go (yes l) = l
+      go (no n) = let z : ⊥ = omega (arith, seen-all r (omega arith)) in absurd z
+
   module _ (p r : ℕ) (small : p < 1024) (there : ahead 1024 p ≡ r) where
     -- no other position stands at place r
     only-there : (j : ℕ) → j < 1024 → ahead 1024 j ≡ r → j ≡ p

@@ -5,6 +5,7 @@ use Prim.Native.Nat.{ℕ, _+_, _*_, _^_}
 use lib.ListN.{length}
 use Rattle.model.specs.Lists.{over}
 use Rattle.model.specs.Refusals.{accepted, planNumber, planCounts, planCycles, checkNumber, checkCycles, decodeNumber, decodeCycles, decodeCheck}
+use Rattle.model.specs.Distance.{distanceNumber, distanceFound}
 use Rattle.replay.specs.Program.{captureText, totalsNumber}
 use Rattle.decode.specs.Calls.{Lent, Given, callOf, Left}
 
@@ -24,6 +25,10 @@ hostCounts mask room counts = accepted (planNumber mask room) (planCounts mask r
 pub record DecodeAnswer (g : Given) (after : Lent) (r : ℕ) : Type 0 where
   pub answer-is : r ≡ decodeNumber (callOf g) + 256 * decodeCycles (callOf g) + 2 ^ 40 * decodeCheck (callOf g)
   pub left : Left g after
+
+-- a mask for a wanted distance: number + 256 × (1 where a mask was written); room is the length of the mask buffer
+abbrev pub DistanceAnswer : ℕ → ℕ → ℕ → ℕ → ℕ → Type 0
+DistanceAnswer N K d room r = r ≡ distanceNumber N K d room + 256 * distanceFound N K d room
 
 -- a replay: number + 256 × length of the text; a refused one leaves the buffer
 pub record ReplayAnswer (bytes out after : List ℕ) (r : ℕ) : Type 0 where

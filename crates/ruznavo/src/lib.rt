@@ -2,7 +2,9 @@
 use decode::decode;
 use encode::encode;
 use kinds::KINDS;
+use masks::ForDistance;
 use masks::mask_by_weight;
+use masks::mask_for_distance;
 use planner::plan_mask;
 use plans::check_plan;
 use replay::replay_totals;
@@ -12,10 +14,13 @@ use transform::transform;
 ghost use mathlib.Core.Path.{_≡_};
 ghost use lib.ListN.{length};
 ghost use Rattle.model.specs.Refusals.{samplesNumber, samplesLlrs, encodeNumber, encodeWord, planBytes};
+ghost use Prim.Native.Nat.{_+_, _*_};
 ghost use Rattle.model.specs.Masks.{weightNumber, weightMaskAfter};
+ghost use Rattle.model.specs.Distance.{distanceMaskAfter};
+ghost use Rattle.masks.specs.Answers.{answerNumber, answerFound};
 ghost use Rattle.transform.specs.Calls.{transformNumber, transformBytes};
 ghost use Rattle.decode.specs.Calls.{lent, given};
-ghost use Rattle.ruznavo.specs.Answers.{CheckAnswer, PlanAnswer, hostCounts, DecodeAnswer, ReplayAnswer};
+ghost use Rattle.ruznavo.specs.Answers.{CheckAnswer, PlanAnswer, hostCounts, DecodeAnswer, DistanceAnswer, ReplayAnswer};
 
 // Samples to LLRs, at the noise variance. The answer is the number.
 #[no_mangle]
@@ -104,6 +109,29 @@ pub extern "C" fn ruznavo_mask_by_weight(n: usize, k: usize, mask: &mut [u8]) ->
     ensures { λ _. ⌜ now (mask .exit) ≡ weightMaskAfter n k (now (mask .entry)) ⌝ }
 {
     mask_by_weight(n, k, mask) as u64
+}
+
+// The number of a case, and 256 more where a mask was written.
+fn distance_answer(answer: ForDistance) -> u64
+    ensures { λ r. ⌜ r ≡ answerNumber answer + 256 * answerFound answer ⌝ }
+{
+    match answer {
+        ForDistance::Written => 256,
+        ForDistance::NoMask => 0,
+        ForDistance::BadLength => 1,
+        ForDistance::BadCount => 16,
+        ForDistance::NothingWanted => 17,
+        ForDistance::ShortBuffer => 11,
+    }
+}
+
+// The mask of N and K by row weight, where its every non-zero word has d ones or more. The answer is number + 256 × (1 where a mask was written).
+#[no_mangle]
+pub extern "C" fn ruznavo_mask_for_distance(n: usize, k: usize, d: usize, mask: &mut [u8]) -> u64
+    ensures { λ r. ⌜ DistanceAnswer n k d (length (now (mask .entry))) r ⌝ }
+    ensures { λ _. ⌜ now (mask .exit) ≡ distanceMaskAfter n k d (now (mask .entry)) ⌝ }
+{
+    distance_answer(mask_for_distance(n, k, d, mask))
 }
 
 // A capture replayed: the text of its totals goes to the front of out. The answer is the number + 256 × the length of the text.

@@ -1,0 +1,2 @@
+-- What the contracts of `masks` cite beside the definitions of masks.
+pub mod Answers
