@@ -19,6 +19,7 @@ typedef uint64_t samples_call(const float *samples, size_t samples_length, const
                               float variance, int16_t *llrs, size_t llrs_length);
 
 typedef uint64_t mask_call(size_t n, size_t k, uint8_t *mask, size_t mask_length);
+typedef uint64_t distance_call(size_t n, size_t k, size_t d, uint8_t *mask, size_t mask_length);
 
 decode_call plain_decode, sse2_decode;
 encode_call plain_encode;
@@ -26,5 +27,6 @@ transform_call plain_transform;
 plan_call plain_plan;
 samples_call plain_samples;
 mask_call plain_mask_by_weight;
+distance_call plain_mask_for_distance;
 
 #endif

@@ -24,15 +24,18 @@ typedef struct {
     plan_call *plan;
     samples_call *samples;
     mask_call *mask_by_weight;
+    distance_call *mask_for_distance;
 } library;
 
 static const library libraries[LIBRARIES] = {
-    {"proved", ruznavo_decode, ruznavo_encode, ruznavo_transform, ruznavo_plan, ruznavo_samples, ruznavo_mask_by_weight},
-    {"plain C", plain_decode, plain_encode, plain_transform, plain_plan, plain_samples, plain_mask_by_weight},
-    {"SSE2 C", sse2_decode, NULL, NULL, NULL, NULL, NULL},
+    {"proved", ruznavo_decode, ruznavo_encode, ruznavo_transform, ruznavo_plan, ruznavo_samples, ruznavo_mask_by_weight,
+     ruznavo_mask_for_distance},
+    {"plain C", plain_decode, plain_encode, plain_transform, plain_plan, plain_samples, plain_mask_by_weight,
+     plain_mask_for_distance},
+    {"SSE2 C", sse2_decode, NULL, NULL, NULL, NULL, NULL, NULL},
 };
 
-typedef enum { DECODE, ENCODE, PLAN, SAMPLES, MARKED, MASK, TRANSFORM, CHAIN } routine;
+typedef enum { DECODE, ENCODE, PLAN, SAMPLES, MARKED, MASK, DISTANCE, TRANSFORM, CHAIN } routine;
 
 // The planner's plan; one near the leaves, which cuts every node of 2 positions that is of a kind; and the one that cuts
 // the leaves.
@@ -123,6 +126,7 @@ static void call(const test_case *c, int which, int f) {
     case SAMPLES:
     case MARKED: o->answer = lib->samples(samples[f], n, marks, n, variance, o->llrs, n); break;
     case MASK: o->answer = lib->mask_by_weight(n, c->k, o->word, n); break;
+    case DISTANCE: o->answer = lib->mask_for_distance(n, c->k, (size_t)f % 32 + 1, o->word, n); break;
     case CHAIN:
         lib->samples(samples[f], n, marks, n, variance, o->llrs, n);
         o->answer = lib->decode(mask, n, plan, 2 * n, c->sweeps, o->llrs, n, o->soft, n, o->hard, n, o->payload, c->k,
@@ -224,10 +228,10 @@ static void decode_table(void) {
 }
 
 static void other_table(void) {
-    static const char *const names[] = {"", "encoder", "planner", "front end", "with marks", "mask"};
-    heading("Encoder, planner, front end and mask by row weight", "routine    code");
+    static const char *const names[] = {"", "encoder", "planner", "front end", "with marks", "mask", "distance"};
+    heading("Encoder, planner, front end, mask by row weight and for distances from 1 to 32", "routine    code");
     if (!counting) puts("   proved/plain");
-    for (int i = 0; i < 5 * CODES; i++) {
+    for (int i = 0; i < 6 * CODES; i++) {
         test_case c = {(routine)(ENCODE + i / CODES), codes[i % CODES][0], codes[i % CODES][1], 0, PLANNERS};
         double mean[LIBRARIES];
         if (!counting) printf("%-10s (%4zu,%3zu)%5s", names[c.what], c.n, c.k, "");

@@ -1,5 +1,4 @@
-// Encoder, transform, planner, front end, mask by row weight and decoder in plain C, as one would write them without
-// intrinsics.
+// Encoder, transform, planner, front end, masks and decoder in plain C, as one would write them without intrinsics.
 #include "baseline.h"
 #include "kinds.h"
 #include "slips.h"
@@ -124,6 +123,24 @@ uint64_t plain_mask_by_weight(size_t n, size_t k, uint8_t *mask, size_t mask_len
         *more -= *more > 0;
     }
     return 0;
+}
+
+// The least weight of the mask's words is that of the lightest row of an unfrozen position.
+uint64_t plain_mask_for_distance(size_t n, size_t k, size_t d, uint8_t *mask, size_t mask_length) {
+    if (!exponent_of(n)) return 1;
+    if (k > n) return 16;
+    if (!k || !d) return 17;
+    if (mask_length < n) return 11;
+    uint8_t made[1024];
+    plain_mask_by_weight(n, k, made, n);
+    size_t least = n;
+    for (size_t i = 0; i < n; i++) {
+        size_t weight = (size_t)1 << __builtin_popcountll(i);
+        if (!made[i] && weight < least) least = weight;
+    }
+    if (least < d) return 0;
+    memcpy(mask, made, n);
+    return 256;
 }
 
 uint64_t plain_plan(const uint8_t *mask, size_t n, uint8_t *plan, size_t plan_length, uint32_t *counts) {

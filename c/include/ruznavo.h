@@ -48,11 +48,11 @@
  *
  * Answers. Each call answers one number; the functions below take it apart. The refusal number is 0 if the call was
  * accepted. A refused call answers its number with every other result 0 and leaves every buffer as it was, the
- * workspace too. If several causes apply, the lowest number of those that the call tests is answered; mask_by_weight
- * and replay test in the order that is given with them.
+ * workspace too. If several causes apply, the lowest number of those that the call tests is answered; the calls for
+ * masks and replay test in the order that is given with them.
  *
  * Stack. At N = 1024 a replay used less than 80 KB, since it holds a decode's buffers, the decoder less than 5 KB, the
- * mask by weight less than 2.5 KB, planner and plan check less than 2 KB each, the others less than 200 bytes.
+ * masks less than 2.5 KB, planner and plan check less than 2 KB each, the others less than 200 bytes.
  * `make -C c` measures this (c/test/stack.c), and fails where a call uses more.
  */
 #ifndef RUZNAVO_H
@@ -67,9 +67,9 @@ extern "C" {
 
 /* The version of this header and of the library that it belongs to. The shared object's name has the first number. */
 #define RUZNAVO_VERSION_MAJOR 0
-#define RUZNAVO_VERSION_MINOR 6
+#define RUZNAVO_VERSION_MINOR 7
 #define RUZNAVO_VERSION_PATCH 0
-#define RUZNAVO_VERSION "0.6.0"
+#define RUZNAVO_VERSION "0.7.0"
 
 #define RUZNAVO_MIN_N 2
 #define RUZNAVO_MAX_N 1024
@@ -111,22 +111,23 @@ enum {
 /* Refusal numbers. 13 stands in the line program's text alone; no call answers it. */
 enum {
     RUZNAVO_OK = 0,
-    RUZNAVO_BAD_LENGTH = 1,    /* N, given or as a length, is not a power of two from 2 to 1024 */
-    RUZNAVO_BAD_MASK = 2,      /* a mask byte above 1 */
-    RUZNAVO_BAD_COUNT = 3,     /* LLRs or position marks are not N, or the payload is not K */
-    RUZNAVO_BAD_SWEEPS = 4,    /* sweeps outside 1 to RUZNAVO_MAX_SWEEPS */
-    RUZNAVO_BAD_PLAN = 5,      /* plan is not 2N bytes, a plan byte above 1, or byte 0 not 0 */
-    RUZNAVO_BAD_CUTS = 6,      /* a path from root to leaf without exactly one cut, or a cut node of no kind */
-    RUZNAVO_BAD_LLR = 7,       /* an LLR of -32768 */
-    RUZNAVO_BAD_VARIANCE = 8,  /* the noise variance is not finite or not above 0 */
-    RUZNAVO_BAD_SAMPLE = 9,    /* a position mark above 2, or a sent sample that is not finite */
-    RUZNAVO_BAD_PAYLOAD = 10,  /* a payload byte above 1 */
-    RUZNAVO_SHORT_OUTPUT = 11, /* an output is too short */
-    RUZNAVO_SHORT_WORK = 12,   /* the workspace is too short */
-    RUZNAVO_BAD_LINE = 13,     /* the line is malformed */
-    RUZNAVO_BAD_CAPTURE = 14,  /* a capture's trailer or lengths do not fit, or it has more than 65536 bytes */
-    RUZNAVO_BAD_DRAIN = 15,    /* a drain number above 63 */
-    RUZNAVO_BAD_UNFROZEN = 16  /* K above N */
+    RUZNAVO_BAD_LENGTH = 1,     /* N, given or as a length, is not a power of two from 2 to 1024 */
+    RUZNAVO_BAD_MASK = 2,       /* a mask byte above 1 */
+    RUZNAVO_BAD_COUNT = 3,      /* LLRs or position marks are not N, or the payload is not K */
+    RUZNAVO_BAD_SWEEPS = 4,     /* sweeps outside 1 to RUZNAVO_MAX_SWEEPS */
+    RUZNAVO_BAD_PLAN = 5,       /* plan is not 2N bytes, a plan byte above 1, or byte 0 not 0 */
+    RUZNAVO_BAD_CUTS = 6,       /* a path from root to leaf without exactly one cut, or a cut node of no kind */
+    RUZNAVO_BAD_LLR = 7,        /* an LLR of -32768 */
+    RUZNAVO_BAD_VARIANCE = 8,   /* the noise variance is not finite or not above 0 */
+    RUZNAVO_BAD_SAMPLE = 9,     /* a position mark above 2, or a sent sample that is not finite */
+    RUZNAVO_BAD_PAYLOAD = 10,   /* a payload byte above 1 */
+    RUZNAVO_SHORT_OUTPUT = 11,  /* an output is too short */
+    RUZNAVO_SHORT_WORK = 12,    /* the workspace is too short */
+    RUZNAVO_BAD_LINE = 13,      /* the line is malformed */
+    RUZNAVO_BAD_CAPTURE = 14,   /* a capture's trailer or lengths do not fit, or it has more than 65536 bytes */
+    RUZNAVO_BAD_DRAIN = 15,     /* a drain number above 63 */
+    RUZNAVO_BAD_UNFROZEN = 16,  /* K above N */
+    RUZNAVO_NOTHING_WANTED = 17 /* K or the wanted distance is 0 */
 };
 
 /* A refusal number's cause in words, for messages. */
@@ -149,6 +150,7 @@ static inline const char *ruznavo_number_name(unsigned number) {
     case RUZNAVO_BAD_CAPTURE: return "capture's trailer or lengths do not fit, or more than 65536 bytes";
     case RUZNAVO_BAD_DRAIN: return "drain number above 63";
     case RUZNAVO_BAD_UNFROZEN: return "K above N";
+    case RUZNAVO_NOTHING_WANTED: return "K or the wanted distance is 0";
     default: return "unknown number";
     }
 }
@@ -164,6 +166,9 @@ static inline uint32_t ruznavo_cycles(uint64_t answer) { return (uint32_t)(answe
 
 /* The length of the text that a replay has written. */
 static inline size_t ruznavo_text_length(uint64_t answer) { return (size_t)(answer >> 8); }
+
+/* Whether a mask for a wanted distance was written: 1, or 0 for none and for a refused call. */
+static inline unsigned ruznavo_found(uint64_t answer) { return (unsigned)(answer >> 8 & 1); }
 
 /*
  * The frozen check of a decode: 1 exactly if the decoded frozen bits are all 0, that is, if the hard word is a word of
@@ -240,6 +245,17 @@ uint64_t ruznavo_decode(const uint8_t *mask, size_t mask_length, const uint8_t *
  * Answers the number: 0, or the first of 1, 16 and 11.
  */
 uint64_t ruznavo_mask_by_weight(size_t n, size_t k, uint8_t *mask, size_t mask_length);
+
+/*
+ * The same mask where every non-zero word has d ones or more, so that any two words differ in d bits or more. If that
+ * mask does not have this property, no mask of that N and K has it: then the answer is none, and the buffer stays as it
+ * was. The distance bounds what the best decoder can do; SCAN can do worse (see above).
+ *   n, k, mask  as above
+ *   d           the wanted distance, any number from 1 on
+ * Answers the number, 0 or the first of 1, 16, 17 and 11, and whether a mask was written (ruznavo_found). None is an
+ * accepted answer: number 0.
+ */
+uint64_t ruznavo_mask_for_distance(size_t n, size_t k, size_t d, uint8_t *mask, size_t mask_length);
 
 /*
  * Replays a capture with the planner's plan of its mask, and writes the totals of its drains as text: a line for each

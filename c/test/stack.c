@@ -38,6 +38,7 @@ static void call_decode(void) {
                             RUZNAVO_MAX_WORK_WORDS);
 }
 static void call_mask_by_weight(void) { answer = ruznavo_mask_by_weight(N, N / 2, mask, N); }
+static void call_mask_for_distance(void) { answer = ruznavo_mask_for_distance(N, N / 2, 2, mask, N); }
 static void call_replay(void) { answer = ruznavo_replay(capture.bytes, capture.length, text, sizeof text); }
 
 static size_t bytes_used(void (*call)(void)) {
@@ -75,6 +76,7 @@ int main(void) {
     failed += measure("check_plan", call_check_plan, 2000) + measure("decode", call_decode, 5000);
     capture_frame(&capture, 63, RUZNAVO_MAX_SWEEPS, llrs, N);
     capture_end(&capture, mask, N);
-    failed += measure("replay", call_replay, 80000) + measure("mask_by_weight", call_mask_by_weight, 2500);
+    failed += measure("replay", call_replay, 80000) + measure("mask_by_weight", call_mask_by_weight, 2500) +
+              measure("mask_for_distance", call_mask_for_distance, 2500);
     return failed != 0;
 }

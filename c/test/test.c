@@ -24,9 +24,9 @@
 /* The longest input that a damaged call has. */
 enum { LONGEST = 4 * REF_MAX_N };
 
-enum call { SAMPLES, ENCODE, TRANSFORM, PLAN, CHECK_PLAN, DECODE, REPLAY, MASK_BY_WEIGHT, CALLS };
-static const char *const call_names[CALLS] = {"samples",    "encode", "transform", "plan",
-                                              "check_plan", "decode", "replay",    "mask_by_weight"};
+enum call { SAMPLES, ENCODE, TRANSFORM, PLAN, CHECK_PLAN, DECODE, REPLAY, MASK_BY_WEIGHT, MASK_FOR_DISTANCE, CALLS };
+static const char *const call_names[CALLS] = {"samples", "encode", "transform",      "plan",             "check_plan",
+                                              "decode",  "replay", "mask_by_weight", "mask_for_distance"};
 
 /* The numbers that each call can answer, as bits. */
 static const unsigned answers[CALLS] = {
@@ -38,12 +38,13 @@ static const unsigned answers[CALLS] = {
     0xFFu | 1u << 11 | 1u << 12,
     1u << 0 | 1u << 1 | 1u << 2 | 1u << 4 | 1u << 7 | 1u << 11 | 1u << 14 | 1u << 15,
     1u << 0 | 1u << 1 | 1u << 11 | 1u << 16,
+    1u << 0 | 1u << 1 | 1u << 11 | 1u << 16 | 1u << 17,
 };
 
 static uint64_t seed = 1, case_number;
-enum { NUMBERS = RUZNAVO_BAD_UNFROZEN + 1 };
+enum { NUMBERS = RUZNAVO_NOTHING_WANTED + 1 };
 static uint64_t number_seen[CALLS][NUMBERS], stage_seen[CALLS][REF_MAX_STAGE + 1], sweeps_seen[REF_MAX_SWEEPS + 1],
-    check_seen[2];
+    check_seen[2], found_seen[2];
 
 /* Nodes of a kind by their stage, in accepted decodes: those that the plan goes below, and those that it cuts. */
 static uint64_t kind_seen[2][REF_KINDS][REF_MAX_STAGE + 1];
@@ -533,6 +534,32 @@ static void mask_by_weight_case(struct random *r) {
     if (number == 0) stage_seen[MASK_BY_WEIGHT][ref_exponent(N)]++;
 }
 
+/* Distances about the rows' weights, powers of two, and others. */
+static size_t drawn_distance(struct random *r, size_t N) {
+    if (random_chance(r, 0.1)) return SIZE_MAX;
+    size_t d = (size_t)1 << random_below(r, 11);
+    return random_chance(r, 0.5) ? d + random_below(r, 2) : 1 + random_below(r, 2 * N);
+}
+
+static void mask_for_distance_case(struct random *r) {
+    size_t N = (size_t)1 << random_from(r, 1, REF_MAX_STAGE), room = enough(r, N);
+    size_t K = random_from(r, 1, random_chance(r, 0.3) && N > 10 ? 10 : N), d = drawn_distance(r, N);
+    for (int damage = damages(r); damage > 0; damage--) switch (random_below(r, 5)) {
+        case 0: N = other_length(r, N); break;
+        case 1: K = random_chance(r, 0.5) ? N + 1 : random_chance(r, 0.5) ? SIZE_MAX : other_length(r, N); break;
+        case 2: K = 0; break;
+        case 3: d = 0; break;
+        default: room = too_short(r, N);
+        }
+    place(r, MASK, room, 1, NULL);
+    static const enum slot used[] = {MASK};
+    uint64_t answer = ruznavo_mask_for_distance(N, K, d, buffer(MASK), room);
+    int found, number = ref_mask_for_distance(N, K, d, twin(MASK), room, &found);
+    compare(MASK_FOR_DISTANCE, answer, number, (uint32_t)found, 0, used, 1);
+    if (ruznavo_found(answer) != (unsigned)found) stop("whether a mask was found");
+    if (number == 0) stage_seen[MASK_FOR_DISTANCE][ref_exponent(N)]++, found_seen[found]++;
+}
+
 /* ---- document 01's frames, so that library and reference cannot be wrong alike there */
 
 struct frame {
@@ -634,6 +661,9 @@ static void run_mask(void) {
     static const uint8_t expected[8] = {1, 1, 1, 1, 1, 0, 0, 0};
     uint8_t mask[8];
     if (ruznavo_mask_by_weight(8, 3, mask, 8) || memcmp(mask, expected, 8)) stop("the mask of 8 and 3");
+    memset(mask, 7, sizeof mask);
+    if (ruznavo_mask_for_distance(8, 3, 5, mask, 8) != 0 || mask[0] != 7 || mask[7] != 7) stop("no mask of distance 5");
+    if (ruznavo_mask_for_distance(8, 3, 4, mask, 8) != 256 || memcmp(mask, expected, 8)) stop("a mask of distance 4");
 }
 
 /* ---- what was tried */
@@ -646,9 +676,11 @@ static void report(void) {
         printf("\n");
     }
     printf("decodes accepted with frozen check 0: %" PRIu64 ", 1: %" PRIu64 "\n", check_seen[0], check_seen[1]);
+    printf("masks for a distance, none: %" PRIu64 ", found: %" PRIu64 "\n", found_seen[0], found_seen[1]);
 }
 
-/* A run of some length has tried every number that a call can answer, every N, every sweep count and both checks. */
+/* A run of some length has tried every number that a call can answer, every N, every sweep count, both checks, and masks
+ * for a distance that are found and that are not. */
 static void all_tried(void) {
     for (int call = 0; call < CALLS; call++) {
         for (int number = 0; number < NUMBERS; number++)
@@ -660,6 +692,7 @@ static void all_tried(void) {
     for (int sweeps = 1; sweeps <= REF_MAX_SWEEPS; sweeps++)
         if (!sweeps_seen[sweeps]) stop("a number of sweeps not tried");
     if (!check_seen[0] || !check_seen[1]) stop("a frozen check not tried");
+    if (!found_seen[0] || !found_seen[1]) stop("a mask for a distance, found or not, not tried");
 }
 
 /* A longer run has cut every kind at every size at which a node has it, and gone below it where there are children. */
@@ -674,8 +707,9 @@ static void all_kinds_tried(void) {
 }
 
 int main(int argc, char **argv) {
-    static void (*const run[CALLS])(struct random *) = {samples_case,    encode_case, transform_case, plan_case,
-                                                        check_plan_case, decode_case, replay_case,    mask_by_weight_case};
+    static void (*const run[CALLS])(struct random *) = {
+        samples_case, encode_case, transform_case,      plan_case,             check_plan_case,
+        decode_case,  replay_case, mask_by_weight_case, mask_for_distance_case};
     uint64_t cases = argc > 2 ? strtoull(argv[2], NULL, 10) : 50000, first = argc > 3 ? strtoull(argv[3], NULL, 10) : 0;
     if (argc > 1) seed = strtoull(argv[1], NULL, 10);
     signal(SIGSEGV, fault);

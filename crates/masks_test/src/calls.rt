@@ -1,4 +1,4 @@
-// The call under test, on the first bytes of a buffer that holds fillers.
+// The call for a mask by row weight, on the first bytes of a buffer that holds fillers.
 use test_tools::buffers::Bytes;
 use test_tools::buffers::byte_at;
 use test_tools::buffers::lent_bytes;
@@ -30,8 +30,14 @@ fn called(n: usize, k: usize, room: usize) -> Answer {
     }
 }
 
+// The buffer after a call with its first N bytes.
+pub fn mask_of(n: usize, k: usize) -> Bytes {
+    let got = called(n, k, n);
+    got.mask
+}
+
 // The first place with different bytes; 4112 where there is none.
-fn first_difference(a: Bytes, b: Bytes) -> usize {
+pub fn first_difference(a: Bytes, b: Bytes) -> usize {
     let mut i = 0;
     while i < 4112 {
         if a[i] != b[i] {
@@ -42,7 +48,17 @@ fn first_difference(a: Bytes, b: Bytes) -> usize {
     i
 }
 
-// The call, both numbers and, if there is one, the place with different bytes.
+// The place with different bytes, if there is one, and the end of the line.
+pub fn print_difference(left: Bytes, mask: Bytes, place: usize) {
+    if place < 4112 {
+        let a = byte_at(&left, place) as usize;
+        let b = byte_at(&mask, place) as usize;
+        print_values(b"; byte | is |, expected ", [place, a, b, 0, 0, 0, 0, 0]);
+    }
+    end_line();
+}
+
+// The call, both numbers and the difference.
 fn print_mismatch(got: Answer, number: u32, mask: Bytes, place: usize) {
     let left = got.mask;
     let answer = got.number as usize;
@@ -51,12 +67,7 @@ fn print_mismatch(got: Answer, number: u32, mask: Bytes, place: usize) {
         b"mismatch: N |, K |, buffer of | bytes: number |, expected ",
         [got.n, got.k, got.room, answer, wanted, 0, 0, 0],
     );
-    if place < 4112 {
-        let a = byte_at(&left, place) as usize;
-        let b = byte_at(&mask, place) as usize;
-        print_values(b"; byte | is |, expected ", [place, a, b, 0, 0, 0, 0, 0]);
-    }
-    end_line();
+    print_difference(left, mask, place);
 }
 
 // Whether a call answers the number and leaves the mask. Prints the call if not.

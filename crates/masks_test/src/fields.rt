@@ -7,7 +7,7 @@ ghost use Prim.Native.Nat.{_≤_};
 
 // Field k, from 0 on.
 fn field(line: &[u8], k: usize) -> &[u8]
-    requires { ⌜ k ≤ 4 ⌝ }
+    requires { ⌜ k ≤ 5 ⌝ }
 {
     let mut at = 0;
     let mut i = 0;
@@ -25,7 +25,7 @@ fn value(digits: &[u8]) -> usize {
 }
 
 pub fn value_at(line: &[u8], k: usize) -> usize
-    requires { ⌜ k ≤ 4 ⌝ }
+    requires { ⌜ k ≤ 5 ⌝ }
 {
     value(field(line, k))
 }
@@ -36,4 +36,12 @@ pub fn position_at(line: &[u8], rank: usize) -> usize
 {
     let positions = field(line, 2);
     number(part(positions, 3 * rank, 3 * rank + 3)) as usize
+}
+
+// The exponent of K, one digit for each K from 1 on, in WORD N EXPONENTS.
+pub fn exponent_at(line: &[u8], k: usize) -> usize
+    requires { ⌜ (1 ≤ k) × (k ≤ 1024) ⌝ }
+{
+    let exponents = field(line, 2);
+    number(part(exponents, k - 1, k)) as usize
 }

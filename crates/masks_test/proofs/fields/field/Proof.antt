@@ -6,7 +6,7 @@ use Rattle.masks_test.proofs.fields.field.Statement.{statement}
 use Rattle.masks_test.proofs.fields.field.Tie as tie
 
 abbrev Inv-loop : tie.InvT-loop
-Inv-loop line k at₀ i₀ at i = (i ≤ k) × (k ≤ 4) × (at ≤ length line + i)
+Inv-loop line k at₀ i₀ at i = (i ≤ k) × (k ≤ 5) × (at ≤ length line + i)
 
 abbrev μ-loop : tie.MeasureT-loop
 μ-loop line k at₀ i₀ at i = k - i
