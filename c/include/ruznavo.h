@@ -52,8 +52,8 @@
  * masks and replay test in the order that is given with them.
  *
  * Stack. At N = 1024 a replay used less than 80 KB, since it holds a decode's buffers, the decoder less than 5 KB, the
- * masks less than 2.5 KB, planner and plan check less than 2 KB each, the others less than 200 bytes.
- * `make -C c` measures this (c/test/stack.c), and fails where a call uses more.
+ * mask for a distance less than 4.5 KB, the mask by weight less than 2.5 KB, planner and plan check less than 2 KB each,
+ * the others less than 200 bytes. `make -C c` measures this (c/test/stack.c), and fails where a call uses more.
  */
 #ifndef RUZNAVO_H
 #define RUZNAVO_H

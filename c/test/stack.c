@@ -77,6 +77,6 @@ int main(void) {
     capture_frame(&capture, 63, RUZNAVO_MAX_SWEEPS, llrs, N);
     capture_end(&capture, mask, N);
     failed += measure("replay", call_replay, 80000) + measure("mask_by_weight", call_mask_by_weight, 2500) +
-              measure("mask_for_distance", call_mask_for_distance, 2500);
+              measure("mask_for_distance", call_mask_for_distance, 4500);
     return failed != 0;
 }
