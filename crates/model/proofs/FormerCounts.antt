@@ -1,20 +1,20 @@
 -- The counts in the table's order, from those in the order before request No. 4. Assumes nothing.
-use mathlib.Core.Path.{_≡_, refl, sym, ap, ap₂, _∙_, subst}
+use mathlib.Core.Path.{_≡_, refl, sym, ap, ap₂, _∙_}
 use mathlib.Core.Bool.{Bool, true, false, cond, _&&_}
-use mathlib.Core.Option.{Option, none, some}
+use mathlib.Core.Option.{Option, some}
 use mathlib.Core.List.{List, [], _∷_}
-use Prim.Native.Nat.{ℕ, zero, suc, _+_, _*_, _-_, _^_, _≤_, _<_}
+use Prim.Native.Nat.{ℕ, zero, suc, _+_, _*_, _-_, _^_, _≤_}
 use native.Mathlib.Nat.{mul-add}
 use native.Mathlib.Omega.{arith}
-use lib.Dec.{T, eqb, leb}
+use lib.Dec.{T}
 use lib.ListN.{length, getD, take, drop, length-drop}
 use lib.Seq.{length-take-le}
 use Rattle.model.specs.Lists.{same, bit}
 use Rattle.model.specs.Encoding.{frozenToZero}
-use Rattle.model.specs.Kinds.{Kind, rate-0, rate-1, REP, SPC, type-I, type-III, type-II, type-IV, order, pattern, fits, firstOf, kindBy, kindOf, isKind}
+use Rattle.model.specs.Kinds.{Kind, rate-0, rate-1, REP, SPC, type-I, type-III, type-II, type-IV, pattern, fits, firstOf, kindBy, kindOf, isKind}
 use Rattle.model.specs.Plans.{isCut, cutsOf, cutsBy, counts}
 use Rattle.model.specs.Orders.{former, countsBy, cutsWith, moved}
-use Rattle.model.proofs.Lists.{T-true, true-T, absurd-bool, and-l, and-r, same→eq, double}
+use Rattle.model.proofs.Lists.{true-T, absurd-bool, and-l, and-r, same→eq, double}
 use Rattle.model.proofs.FrozenPositions.{toZero-length}
 use Rattle.model.proofs.Shortcuts.{fits-facts}
 use Rattle.model.proofs.Orders.{same-zeros}

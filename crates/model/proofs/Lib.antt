@@ -13,6 +13,7 @@ pub mod Cycles
 pub mod Planner
 pub mod LeafOnly
 pub mod TwoRuns
+pub mod Undecided
 pub mod Signs
 pub mod Bounds
 pub mod Orders

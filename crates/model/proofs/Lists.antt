@@ -22,6 +22,11 @@ module _ {ℓ} {A : Type ℓ} where
   length-tabulate zero f = refl
   length-tabulate (suc n) f = ap suc (length-tabulate n (λ k. f (suc k)))
 
+  pub tabulate-same : (n : ℕ) (x : A) → tabulate n (λ k. x) ≡ replicate n x
+  unfolding tabulate
+  tabulate-same zero x = refl
+  tabulate-same (suc n) x = ap (λ xs. x ∷ xs) (tabulate-same n x)
+
   pub getD-tabulate : (n : ℕ) (f : ℕ → A) (k : ℕ) (d : A) → k < n → getD (tabulate n f) k d ≡ f k
   unfolding tabulate
   getD-tabulate zero f k d h = absurd (not-suc-le-zero h)

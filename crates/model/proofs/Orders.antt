@@ -1,18 +1,18 @@
 -- Messages and cycles do not depend on which of two kinds a node counts as; the counts do. Assumes nothing.
-use mathlib.Core.Path.{_≡_, refl, sym, ap, ap₂, _∙_, subst}
+use mathlib.Core.Path.{_≡_, refl, sym, ap, ap₂, _∙_}
 use mathlib.Core.Bool.{Bool, true, false, cond, not, _&&_}
 use mathlib.Core.Option.{Option, none, some}
 use mathlib.Core.List.{List, [], _∷_, _++_, append-nil}
 use Prim.Native.Nat.{ℕ, zero, suc, _+_, _*_, _-_, _^_, _≤_, _<_}
 use native.Mathlib.Omega.{arith}
-use borrow.Author.Tests.{lt-ltb, le-ltb, le-leb, lt-leb, eqb-true}
-use lib.Dec.{T, eqb, ltb, leb}
+use borrow.Author.Tests.{lt-ltb, le-ltb, eqb-true}
+use lib.Dec.{T, eqb, ltb}
 use lib.ListN.{length, getD, take, drop, replicate}
 use Rattle.model.specs.Lists.{bit}
 use Rattle.model.specs.Soft.{Soft}
 use Rattle.model.specs.Encoding.{frozenToZero, unfrozen}
 use Rattle.model.specs.Scan.{Tree, node, message, left, right, toLeft, toRight, toNode, start, visit, sweeps}
-use Rattle.model.specs.Kinds.{Kind, rate-0, rate-1, REP, SPC, type-I, type-III, type-II, type-IV, order, leastSize, ownCycles, isFixed, butLast, onlyFirst, pattern, fits, firstOf, kindBy, kindOf, isSome, tag, placeIn, row, isKind, shortcut}
+use Rattle.model.specs.Kinds.{Kind, rate-0, rate-1, REP, SPC, type-I, type-III, type-II, type-IV, order, leastSize, ownCycles, isFixed, pattern, fits, firstOf, kindBy, kindOf, isSome, tag, placeIn, shortcut}
 use Rattle.model.specs.Plans.{isCut, put, putKind, isRate01, cutCycles, walk, walkBy, edgeBy, edgeCycles, cycles, cyclesBy, cutsOfKinds, cutsOfKindsBy, cutAt, cutAtBy, levels, levelsBy, plannerPlan, plannerBy, planned, plannedBy}
 use Rattle.model.specs.Orders.{former, HasAll}
 use Rattle.model.proofs.Lists.{T-true, absurd-bool, tabulate-ext}

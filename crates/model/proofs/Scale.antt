@@ -1,7 +1,7 @@
 -- SCAN of c times the LLRs is c times SCAN of the LLRs. Assumes nothing.
 use mathlib.Core.Path.{_≡_, refl, sym, ap, ap₂, _∙_}
 use mathlib.Core.Bool.{Bool, true, false, cond}
-use mathlib.Core.List.{List, [], _∷_, _++_, map}
+use mathlib.Core.List.{List, [], _∷_, _++_}
 use Prim.Native.Nat.{ℕ, zero, suc, _+_, _*_, _^_, _≤_, _<_, min}
 use native.Mathlib.Nat.{mul-zero, mul-pos, mul-le-mul-left, min-eq-left, min-eq-right}
 use native.Mathlib.Omega.{arith}
@@ -9,10 +9,10 @@ use borrow.Author.Tests.{ltb-true, ltb-false}
 use lib.Dec.{ltb}
 use lib.IntN.{ℤ, pos, negsuc, negℤ, natAbs, _+ℤ_, _*ℤ_, +ℤ-assoc, +ℤ-comm, zero-*ℤ, sucℤ-*ℤ}
 use lib.ListN.{getD, take, drop, List·getD-map}
-use Rattle.model.specs.Lists.{tabulate, bit}
+use Rattle.model.specs.Lists.{tabulate}
 use Rattle.model.specs.Soft.{Soft, finite, certain, softZero, _at_, negative, signed, differ, boxℤ, box, plus}
-use Rattle.model.specs.Encoding.{isUnfrozen, transform, payloadOf, frozenZero}
-use Rattle.model.specs.Scan.{Tree, leaf, node, message, left, right, leafValue, start, toLeft, toRight, toNode, visit, sweeps, scan, hardBit, hardWord, Decoded, decided, decodeScan}
+use Rattle.model.specs.Encoding.{isUnfrozen}
+use Rattle.model.specs.Scan.{Tree, leaf, node, message, left, right, leafValue, start, toLeft, toRight, toNode, visit, sweeps, scan, hardBit, hardWord, undecidedIn, decidedPayload, decidedCheck, decided, decodeScan}
 use Rattle.model.specs.Scale.{scaled, scaledAll}
 use Rattle.model.proofs.Lists.{tabulate-ext}
 
@@ -179,18 +179,35 @@ module _ (c : ℕ) (above : 0 < c) where
       ∙ ap message (on-sweeps n L k (start n mask)) ∙ on-message (sweeps (λ T. visit n T L) k (start n mask))
 
   -- ---- what is read off soft values
+  hard-positive : (x : ℕ) → 0 < x → hardBit (finite (pos x)) ≡ 0
+  hard-positive zero h = absurd (omega arith)
+  hard-positive (suc x) h = refl
+
+  hard-negative : (x : ℕ) → 0 < x → hardBit (finite (negℤ (pos x))) ≡ 1
+  hard-negative zero h = absurd (omega arith)
+  hard-negative (suc x) h = refl
+
   bit-scaled : (s : Soft) → hardBit (scaled c s) ≡ hardBit s
   bit-scaled certain = refl
-  bit-scaled (finite z) = ap bit (times-negative c above z)
+  bit-scaled (finite (pos zero)) = ap (λ (n : ℕ). hardBit (finite (pos n))) (mul-zero c)
+  bit-scaled (finite (pos (suc n))) = hard-positive (c * suc n) (mul-pos above (omega arith))
+  bit-scaled (finite (negsuc n)) = hard-negative (c * suc n) (mul-pos above (omega arith))
 
   hard-scaled : (n : ℕ) (L s : List Soft) → hardWord n (scaledAll c L) (scaledAll c s) ≡ hardWord n L s
   unfolding hardWord
   hard-scaled n L s = tabulate-ext (2 ^ n) _ _ (λ k lt. rw (scaled-at L k, scaled-at s k, scaled-plus (L at k) (s at k)) (bit-scaled (plus (L at k) (s at k))))
 
   pub decode-scaled : (n : ℕ) (mask : List ℕ) (L : List Soft) (k : ℕ) → let D = decodeScan n mask L k in
-      decodeScan n mask (scaledAll c L) k ≡ record { soft = scaledAll c (D .soft); hard = D .hard; payload = D .payload; check = D .check }
+      decodeScan n mask (scaledAll c L) k ≡ record { soft = scaledAll c (D .soft); hard = D .hard; payload = D .payload; check = D .check; undecided = D .undecided }
   unfolding decodeScan decided
   decode-scaled n mask L k =
       ap (λ (s : List Soft). decided n mask (scaledAll c L) s) (scan-scaled n mask L k)
-      ∙ ap (λ (h : List ℕ). record { soft = scaledAll c (scan n mask L k); hard = h; payload = payloadOf mask (transform n h); check = bit (frozenZero mask (transform n h)) })
+      ∙ ap
+      (λ (h : List ℕ). record {
+        soft = scaledAll c (scan n mask L k);
+        hard = h;
+        payload = decidedPayload n mask h;
+        check = decidedCheck n mask h;
+        undecided = undecidedIn h;
+      })
       (hard-scaled n L (scan n mask L k))

@@ -12,12 +12,13 @@ use lib.IntN.{ℤ, pos, negsuc, _+ℤ_, negℤ-+ℤ}
 use Rattle.model.specs.Lists.{tabulate, bit, atMost}
 use Rattle.model.specs.Soft.{Soft, finite, certain, softZero, _at_, box, boxℤ, plus, signed, negative, differ}
 use Rattle.model.specs.Encoding.{transform, place, payloadOf, frozenZero, unfrozen, encode}
-use Rattle.model.specs.Scan.{leafValue, scan, hardBit, hardWord, decided, decodeScan, SignsOf}
+use Rattle.model.specs.Scan.{leafValue, scan, hardBit, hardWord, undecidedIn, decided, decodeScan, SignsOf}
 use Rattle.model.proofs.Lists.{length-tabulate, getD-tabulate}
 use Rattle.model.proofs.Algebra.{box-signed, plus-comm}
 use Rattle.model.proofs.Transform.{transform-bit, length-transform, undo}
 use Rattle.model.proofs.Payload.{length-place, place-back, place-frozenZero, place-clean, place-bits}
 use Rattle.model.proofs.TwoRuns.{minus, Rel, Laws, soft-paired}
+use Rattle.model.proofs.Undecided.{undecided-none, payload-decided, check-decided}
 
 -- zero, or of the sign s; certain only where the sign is plus
 abbrev pub Leans : Bool → Soft → Type 0
@@ -163,10 +164,27 @@ module _ (n : ℕ) (mask payload : List ℕ) (llrs : List ℤ) (sized : length m
   signs-u : transform n (decodeScan n mask (map finite llrs) k .hard) ≡ place mask payload
   signs-u = ap (transform n) signs-hard ∙ (unfold encode in undo n (place mask payload) (length-place mask payload ∙ sized) (λ j h. place-bits mask payload bits j))
 
+  -- no sum is 0
+  pub signs-sums : (j : ℕ) → j < 2 ^ n → plus (map finite llrs at j) (scan n mask (map finite llrs) k at j) ≡ softZero → ⊥
+  unfolding decodeScan decided hardWord encode
+  signs-sums j h e =
+      let tie : getD (tabulate (2 ^ n) (λ i. hardBit (plus (map finite llrs at i) (scan n mask (map finite llrs) k at i)))) j 0 ≡ 2 =
+      getD-tabulate (2 ^ n) (λ i. hardBit (plus (map finite llrs at i) (scan n mask (map finite llrs) k at i))) j 0 h ∙ ap hardBit e in
+      let z : ⊥ = omega (arith, tie, ap (λ (w : List ℕ). getD w j 0) signs-hard, transform-bit n (place mask payload) j h) in z
+
+  -- so no bit is undecided
+  pub signs-decided : decodeScan n mask (map finite llrs) k .undecided ≡ 0
+  unfolding decodeScan decided
+  signs-decided =
+      ap undecidedIn signs-hard
+      ∙ (unfold encode in undecided-none (transform n (place mask payload)) (λ j h. transform-bit n (place mask payload) j (rw (length-transform n (place mask payload)) at h)))
+
   pub signs-payload : decodeScan n mask (map finite llrs) k .payload ≡ payload
   unfolding decodeScan decided
-  signs-payload = ap (payloadOf mask) signs-u ∙ place-back mask payload fits
+  signs-payload = payload-decided n mask (hardWord n (map finite llrs) (scan n mask (map finite llrs) k)) signs-decided ∙ ap (payloadOf mask) signs-u ∙ place-back mask payload fits
 
   pub signs-check : decodeScan n mask (map finite llrs) k .check ≡ 1
   unfolding decodeScan decided
-  signs-check = ap (λ v. bit (frozenZero mask v)) signs-u ∙ ap bit (place-frozenZero mask payload)
+  signs-check =
+      check-decided n mask (hardWord n (map finite llrs) (scan n mask (map finite llrs) k)) signs-decided ∙ ap (λ v. bit (frozenZero mask v)) signs-u
+      ∙ ap bit (place-frozenZero mask payload)

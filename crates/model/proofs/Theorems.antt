@@ -13,9 +13,9 @@ use lib.IntN.{ℤ}
 use lib.ListN.{length, getD}
 use lib.Pow.{pow-mono}
 use Rattle.model.specs.Lists.{atMost}
-use Rattle.model.specs.Soft.{Soft, finite, _at_, plus, maxLlr}
+use Rattle.model.specs.Soft.{Soft, finite, softZero, _at_, plus, maxLlr}
 use Rattle.model.specs.Encoding.{PlainMask, Mask, isUnfrozen, unfrozen, place, encode}
-use Rattle.model.specs.Scan.{Tree, message, start, visit, sweeps, scan, decided, decodeScan, SignsOf}
+use Rattle.model.specs.Scan.{Tree, message, start, visit, sweeps, scan, hardBit, decided, decodeScan, SignsOf}
 use Rattle.model.specs.Plans.{oneCut, cutsOfKinds, wellCut, Allowed, leafOnly, walk, walkBy, planned, Agree, Stays, cycles, cyclesBy, plannerPlan, cutsBelow, counts, plannedBy, cutsOfKindsBy, plannerBy}
 use Rattle.model.specs.Kinds.{Kind, order, fits, kindBy, ownCycles, shortcut}
 use Rattle.model.specs.Orders.{former, HasAll, countsBy, cutsWith, moved}
@@ -31,7 +31,8 @@ use Rattle.model.proofs.PlannedWalk.{agree-message, agree-same, sweeps-
 use Rattle.model.proofs.Cycles.{cycles-bound}
 use Rattle.model.proofs.Planner.{Same, planner-allowed, planner-chosen, cycles-least, same-or-more, same-list}
 use Rattle.model.proofs.LeafOnly.{leafOnly-allowed, leafOnly-cycles}
-use Rattle.model.proofs.Signs.{signs-hard, signs-payload, signs-check}
+use Rattle.model.proofs.Signs.{signs-hard, signs-sums, signs-decided, signs-payload, signs-check}
+use Rattle.model.proofs.Undecided.{two-exactly}
 use Rattle.model.proofs.Orders.{same-message, same-cycles, cuts-by, planner-by, walk-by, planned-by, cycles-by, has-order, has-former}
 use Rattle.model.proofs.FormerCounts.{counts-moved, moved-most}
 use Rattle.model.proofs.Scale.{scan-scaled, decode-scaled}
@@ -114,6 +115,19 @@ pub signs-decode : (n : ℕ) (mask payload : List ℕ) (llrs : List ℤ) → len
 signs-decode n mask payload llrs sized fits bits signs k =
     (signs-hard n mask payload llrs sized fits bits signs k, signs-payload n mask payload llrs sized fits bits signs k, signs-check n mask payload llrs sized fits bits signs k)
 
+-- A bit is undecided exactly where LLR plus soft is 0. No sum of theirs is: no bit is undecided.
+pub tie-exactly : (x : Soft) → (hardBit x ≡ 2 → x ≡ softZero) × (x ≡ softZero → hardBit x ≡ 2)
+tie-exactly = two-exactly
+
+pub signs-sums-not-zero : (n : ℕ) (mask payload : List ℕ) (llrs : List ℤ) → length mask ≡ 2 ^ n → length payload ≡ unfrozen mask → T (atMost 1 payload)
+    → SignsOf n (encode n mask payload) llrs → (k : ℕ) → (j : ℕ) → j < 2 ^ n
+    → plus (map finite llrs at j) (scan n mask (map finite llrs) k at j) ≡ softZero → ⊥
+signs-sums-not-zero = signs-sums
+
+pub signs-none-undecided : (n : ℕ) (mask payload : List ℕ) (llrs : List ℤ) → length mask ≡ 2 ^ n → length payload ≡ unfrozen mask → T (atMost 1 payload)
+    → SignsOf n (encode n mask payload) llrs → (k : ℕ) → decodeScan n mask (map finite llrs) k .undecided ≡ 0
+signs-none-undecided = signs-decided
+
 -- ---- 4. Bounds, for LLRs within ±32767 and N at most 1024.
 room : (n : ℕ) → n ≤ 10 → maxLlr * 2 ^ n ≤ limit
 room n h = let m : 2 ^ n ≤ 1024 = pow-mono h in omega arith
@@ -179,9 +193,9 @@ counts-from-former n plan mask sized = (counts-moved plan n mask sized, moved-mo
 
 -- ---- 6. The scale of the LLRs is the caller's choice, for every c above 0.
 module _ (c : ℕ) (above : 0 < c) where
-  -- SCAN of c times the LLRs has c times the soft values, certain staying certain, and the same hard bits, payload and frozen check.
+  -- SCAN of c times the LLRs has c times the soft values, certain staying certain, and the same hard bits, payload, frozen check and number of undecided bits.
   pub decode-on-scale : (n : ℕ) (mask : List ℕ) (L : List Soft) (k : ℕ) → let D = decodeScan n mask L k in
-      decodeScan n mask (scaledAll c L) k ≡ record { soft = scaledAll c (D .soft); hard = D .hard; payload = D .payload; check = D .check }
+      decodeScan n mask (scaledAll c L) k ≡ record { soft = scaledAll c (D .soft); hard = D .hard; payload = D .payload; check = D .check; undecided = D .undecided }
   decode-on-scale = decode-scaled c above
 
   -- So it is along every allowed plan.

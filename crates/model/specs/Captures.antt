@@ -139,7 +139,7 @@ frameCall mask f =
       words = N * (exponent N + 3);
     }
 
--- hard bits that differ from the LLR's sign; an LLR of 0 counts as bit 0. There are as many hard bits as LLRs.
+-- hard bits that differ from the LLR's sign; an LLR of 0 counts as bit 0, and an undecided bit, 2, always differs. There are as many hard bits as LLRs.
 unfoldable pub differing : List ℤ → List ℕ → ℕ
 differing [] hard = 0
 differing (z ∷ llrs) [] = 0

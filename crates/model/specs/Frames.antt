@@ -1,4 +1,4 @@
--- The nine frames of document 01 as one table; proofs/Frames.antt proves it. Assumes nothing.
+-- The nine frames of document 01 as one table, as request No. 8 amends it; proofs/Frames.antt proves it. Assumes nothing.
 use Prim.Native.Nat.{ℕ, _*_}
 use mathlib.Core.List.{List, [], _∷_}
 use lib.IntN.{pos, negℤ}
@@ -45,7 +45,7 @@ m n = finite (negℤ (pos n))
 
 unfoldable pub frames : List Frame
 frames =
-    whole 3 mask₁ 1 llrs₁ (record { soft = soft₁; hard = word₁; payload = payload₁; check = 1 }) 10
+    whole 3 mask₁ 1 llrs₁ (record { soft = soft₁; hard = word₁; payload = payload₁; check = 1; undecided = 0 }) 10
     ∷ values 3 mask₁ 2 llrs₁ soft₁ 20
     ∷ values 2 (1 ∷ 0 ∷ 1 ∷ 1 ∷ []) 1 (p 5 ∷ m 3 ∷ p 2 ∷ p 1 ∷ []) (m 1 ∷ p 2 ∷ certain ∷ certain ∷ []) 6
     ∷ values 2 (1 ∷ 0 ∷ 1 ∷ 1 ∷ []) 2 (p 5 ∷ m 3 ∷ p 2 ∷ p 1 ∷ []) (m 3 ∷ p 5 ∷ certain ∷ certain ∷ []) 12

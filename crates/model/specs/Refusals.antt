@@ -195,6 +195,10 @@ decodeCycles c = accepted (decodeNumber c) (c .sweeps * cycles (c .plan) (expone
 unfoldable pub decodeCheck : DecodeCall → ℕ
 decodeCheck c = accepted (decodeNumber c) (decodeAnswer c .check) 0
 
+-- the number of undecided bits
+unfoldable pub decodeUndecided : DecodeCall → ℕ
+decodeUndecided c = accepted (decodeNumber c) (decodeAnswer c .undecided) 0
+
 -- the four buffers afterwards
 unfoldable pub decodeSoft : DecodeCall → List ℤ → List ℤ
 decodeSoft c soft = accepted (decodeNumber c) (over (map wordOf (decodeAnswer c .soft)) soft) soft

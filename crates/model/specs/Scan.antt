@@ -5,11 +5,11 @@ use mathlib.Core.Path.{_≡_}
 use mathlib.Core.Bool.{cond}
 use mathlib.Core.List.{List, [], _∷_, _++_}
 use lib.Dec.{eqb}
-use lib.IntN.{ℤ, pos}
-use lib.ListN.{getD, take, drop}
+use lib.IntN.{ℤ, pos, negsuc}
+use lib.ListN.{getD, take, drop, replicate}
 use Rattle.model.specs.Lists.{tabulate, bit}
 use Rattle.model.specs.Soft.{Soft, finite, certain, softZero, _at_, box, plus, negative}
-use Rattle.model.specs.Encoding.{isUnfrozen, transform, payloadOf, frozenZero}
+use Rattle.model.specs.Encoding.{isUnfrozen, unfrozen, transform, payloadOf, frozenZero}
 
 -- Each node keeps a message list of its size.
 pub data Tree : Type 0 where
@@ -69,28 +69,47 @@ sweeps sweep (suc k) T = sweeps sweep k (sweep T)
 unfoldable pub scan : ℕ → List ℕ → List Soft → ℕ → List Soft
 scan n mask L k = message (sweeps (λ T. visit n T L) k (start n mask))
 
--- 1 exactly if the sum is negative; ∞ gives 0
+-- a bit by the sign of a sum: 0 where it is positive, 1 where it is negative, and 2, undecided, where it is 0
+abbrev pub signBit : ℤ → ℕ
+signBit (pos zero) = 2
+signBit (pos (suc n)) = 0
+signBit (negsuc n) = 1
+
+-- the bit of LLR plus soft; ∞ gives 0
 abbrev pub hardBit : Soft → ℕ
-hardBit (finite z) = bit (negative z)
+hardBit (finite z) = signBit z
 hardBit certain = 0
 
 -- the hard bits, from LLR plus soft
 unfoldable pub hardWord : ℕ → List Soft → List Soft → List ℕ
 hardWord n L s = tabulate (2 ^ n) (λ k. hardBit (plus (L at k) (s at k)))
 
--- what a decode writes, and its frozen check
+-- the number of undecided bits of a hard word
+unfoldable pub undecidedIn : List ℕ → ℕ
+undecidedIn [] = 0
+undecidedIn (b ∷ hard) = bit (eqb b 2) + undecidedIn hard
+
+-- what a decode writes, its frozen check, and the number of undecided bits
 pub record Decoded : Type 0 where
   pub soft : List Soft
   pub hard : List ℕ
   pub payload : List ℕ
   pub check : ℕ
+  pub undecided : ℕ
 
--- what is read off soft values: the hard word, the decoded u's unfrozen bits, and whether its frozen bits are all 0
+-- the payload of a hard word: the unfrozen bits of the decoded u, its transform; if any bit is undecided, all K bytes are 2
+unfoldable pub decidedPayload : ℕ → List ℕ → List ℕ → List ℕ
+decidedPayload n mask hard = cond (eqb (undecidedIn hard) 0) (payloadOf mask (transform n hard)) (replicate (unfrozen mask) 2)
+
+-- the frozen check of a hard word: whether the frozen bits of the decoded u are all 0; if any bit is undecided, 0
+unfoldable pub decidedCheck : ℕ → List ℕ → List ℕ → ℕ
+decidedCheck n mask hard = cond (eqb (undecidedIn hard) 0) (bit (frozenZero mask (transform n hard))) 0
+
+-- what is read off soft values
 unfoldable pub decided : ℕ → List ℕ → List Soft → List Soft → Decoded
 decided n mask L s =
     let hard : List ℕ = hardWord n L s in
-    let u : List ℕ = transform n hard in
-    record { soft = s; hard = hard; payload = payloadOf mask u; check = bit (frozenZero mask u) }
+    record { soft = s; hard = hard; payload = decidedPayload n mask hard; check = decidedCheck n mask hard; undecided = undecidedIn hard }
 
 -- SCAN: it takes a mask, LLRs and a number of sweeps, and knows no plan
 unfoldable pub decodeScan : ℕ → List ℕ → List Soft → ℕ → Decoded
