@@ -2,35 +2,92 @@
 use mathlib.Core.Path.{_≡_, refl, sym, _∙_, ap, ap₂}
 use mathlib.Core.Bool.{Bool, true, false, cond, _&&_}
 use mathlib.Core.List.{List, [], _∷_, _++_, append-assoc, append-nil}
-use Prim.Native.Nat.{ℕ, zero, suc, _+_, _<_, _≤_, max}
+use Prim.Native.Nat.{ℕ, zero, suc, _+_, _^_, _<_, _≤_, max}
 use native.Mathlib.Nat.{zero-add}
 use native.Mathlib.Numerals.{add-one}
 use native.Mathlib.Omega.{arith}
-use borrow.Author.Tests.{eq-eqb, ne-eqb}
+use borrow.Author.Tests.{eq-eqb, ne-eqb, le-ltb}
 use lib.Dec.{eqb}
-use lib.IntN.{ℤ}
+use lib.IntN.{ℤ, pos, negsuc}
+use lib.Signed.{ltZ, mag}
+use mir.Syntax.{w32}
 use lib.ListN.{length, getD, set, take, drop, length-set, take-append-drop, drop-of-length-le}
 use lib.Seq.{drop-cons, drop-drop, take-suc-set, drop-set-lt, length-take-le}
-use Rattle.model.specs.Lists.{bit, over}
-use mir.Val.{boolByte}
-use Rattle.model.specs.Soft.{Soft, finite, certain, wordOf, negative, plus, softOf}
+use Rattle.model.specs.Lists.{tabulate, bit, over}
+use mir.Val.{boolByte, ofZ, toZ}
+use mir.Val.{SFits}
+use Rattle.model.specs.Soft.{Soft, finite, certain, wordOf, plus, softOf}
 use Rattle.words.specs.Words.{write, addWord}
+use Rattle.words.proofs.Signed.{back}
 use Rattle.words.proofs.Store.{store-more}
-use Rattle.model.specs.Scan.{hardBit}
+use Rattle.model.specs.Scan.{signBit, hardBit, undecidedIn}
 use Rattle.model.specs.Encoding.{isUnfrozen, unfrozen, payloadOf, frozenZero}
-use Rattle.model.proofs.Lists.{and-assoc, and-true, first-left}
+use Rattle.model.proofs.Lists.{bit-small, and-assoc, and-true, first-left}
 use Rattle.inputs.proofs.Folds.{unfrozen-more}
 
 pub bit-bool : (b : Bool) → boolByte b ≡ bit b
 bit-bool true = refl
 bit-bool false = refl
 
+-- a sum's bit by whether it is negative, and by whether it is 0
+pub negative-is : (z : ℤ) → boolByte (ltZ z (pos 0)) ≡ bit (eqb (signBit z) 1)
+negative-is (pos zero) = refl
+negative-is (pos (suc n)) = rw (le-ltb (suc n) 0 (omega arith)) refl
+negative-is (negsuc n) = refl
+
+pub tie-is : (z : ℤ) → SFits w32 z → boolByte (eqb (ofZ w32 z) 0) ≡ bit (eqb (signBit z) 2)
+tie-is (pos zero) f = refl
+tie-is (pos (suc n)) f = rw (ne-eqb (suc n) 0 (λ e. omega arith)) refl
+tie-is (negsuc n) f = rw (ne-eqb (ofZ w32 (negsuc n)) 0 (λ e. omega (arith, f .sfits))) refl
+
+pub not-tie : (z : ℤ) → (z ≡ pos 0 → ⊥) → bit (eqb (signBit z) 1) ≡ signBit z
+not-tie (pos zero) h = absurd (h refl)
+not-tie (pos (suc n)) h = refl
+not-tie (negsuc n) h = refl
+
+-- the bit of a sum that is read back from its bits
+pub sign-back : (z : ℤ) {b : ℕ} → mag z < 2 ^ 31 → signBit z ≡ b → signBit (toZ w32 (ofZ w32 z)) ≡ b
+sign-back z h e = ap signBit (back {z = z} h) ∙ e
+
+pub bit-most : (s : Soft) → hardBit s ≤ 2
+bit-most (finite (pos zero)) = omega arith
+bit-most (finite (pos (suc n))) = omega arith
+bit-most (finite (negsuc n)) = omega arith
+bit-most certain = omega arith
+
+-- where there are no ties, the bits by sign are the hard bits
+pub no-ties : (n : ℕ) (f : ℕ → ℕ) → ((k : ℕ) → f k ≤ 2) → undecidedIn (tabulate n f) ≡ 0 → (k : ℕ) → k < n → bit (eqb (f k) 1) ≡ f k
+unfolding undecidedIn tabulate
+no-ties zero f small e k h = absurd (omega arith)
+no-ties (suc n) f small e zero h = go (f 0) (small 0) (omega (arith, e))
+  where
+    go : (b : ℕ) → b ≤ 2 → bit (eqb b 2) ≡ 0 → bit (eqb b 1) ≡ b
+    go zero l z = refl
+    go (suc zero) l z = refl
+    go (suc (suc zero)) l z = absurd (omega arith)
+    go (suc (suc (suc b))) l z = absurd (omega arith)
+no-ties (suc n) f small e (suc k) h = no-ties n (λ j. f (suc j)) (λ j. small (suc j)) (omega (arith, e)) k (omega arith)
+
+-- one tie more
+pub ties-more : (n : ℕ) (f : ℕ → ℕ) → undecidedIn (tabulate (n + 1) f) ≡ undecidedIn (tabulate n f) + bit (eqb (f n) 2)
+unfolding undecidedIn tabulate
+ties-more n f = ap (λ (k : ℕ). undecidedIn (tabulate k f)) (add-one n) ∙ go n f
+  where
+    go : (n : ℕ) (f : ℕ → ℕ) → undecidedIn (tabulate (suc n) f) ≡ undecidedIn (tabulate n f) + bit (eqb (f n) 2)
+    go zero f = omega arith
+    go (suc n) f = omega (arith, go n (λ k. f (suc k)))
+
+pub ties-few : (n : ℕ) (f : ℕ → ℕ) → undecidedIn (tabulate n f) ≤ n
+unfolding undecidedIn tabulate
+ties-few zero f = omega arith
+ties-few (suc n) f = omega (arith, bit-small (eqb (f 0) 2), ties-few n (λ k. f (suc k)))
+
 -- the hard bit from the word of the sum
-bit-word : (s : Soft) → boolByte (negative (wordOf s)) ≡ hardBit s
-bit-word (finite z) = bit-bool (negative z)
+bit-word : (s : Soft) → signBit (wordOf s) ≡ hardBit s
+bit-word (finite z) = refl
 bit-word certain = refl
 
-pub decision : (a b : ℤ) → boolByte (negative (addWord a b)) ≡ hardBit (plus (softOf a) (softOf b))
+pub decision : (a b : ℤ) → signBit (addWord a b) ≡ hardBit (plus (softOf a) (softOf b))
 unfolding addWord
 decision a b = bit-word (plus (softOf a) (softOf b))
 

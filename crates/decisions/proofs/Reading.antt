@@ -1,5 +1,5 @@
 -- The bits read off the soft values' words: from the buffers that the steps leave to the definitions. Assumes nothing.
-use mathlib.Core.Path.{_≡_, refl, sym, _∙_, ap, ap₂}
+use mathlib.Core.Path.{_≡_, refl, sym, _∙_, ap, ap₂, subst}
 use mathlib.Core.Bool.{Bool, true, cond, _&&_}
 use mathlib.Core.List.{List, [], _∷_, _++_}
 use Prim.Native.Nat.{ℕ, _+_, _-_, _^_, _≤_}
@@ -8,20 +8,23 @@ use native.Mathlib.Omega.{arith}
 use borrow.Author.Tests.{ne-eqb}
 use lib.Dec.{eqb}
 use lib.IntN.{ℤ}
-use lib.ListN.{length, getD, take, drop, List·getD-append}
+use lib.ListN.{length, getD, take, drop, replicate, List·getD-append}
 use lib.Seq.{length-take-le, take-at, drop-at, getD-append-add, getD-drop}
-use Rattle.model.specs.Lists.{tabulate, over}
-use Rattle.model.specs.Encoding.{isUnfrozen, transform, payloadOf, frozenZero}
+use Rattle.model.specs.Lists.{tabulate, over, bit}
+use Rattle.model.specs.Soft.{plus, softOf}
+use Rattle.model.specs.Encoding.{isUnfrozen, unfrozen, transform, payloadOf, frozenZero}
+use Rattle.model.specs.Scan.{undecidedIn}
 use Rattle.model.specs.Refusals.{refusal, exponent}
 use Rattle.model.proofs.Lists.{length-tabulate, getD-tabulate}
 use Rattle.model.proofs.Refusals.{exponent-power}
 use Rattle.model.proofs.Transform.{length-transform}
-use Rattle.words.specs.Words.{write}
-use Rattle.words.proofs.Store.{write-is}
+use Rattle.model.proofs.Undecided.{payload-decided, check-decided, payload-undecided, check-undecided}
+use Rattle.words.specs.Words.{word, write}
+use Rattle.words.proofs.Store.{write-is, write-ext, write-over}
 use Rattle.transform.specs.Calls.{transformNumber, transformBytes}
-use Rattle.decisions.specs.Bits.{decisionAt}
-use Rattle.decisions.specs.Bits.{BitsRoom, Readable, wordDecisions}
+use Rattle.decisions.specs.Bits.{decisionAt, negativeAt, wordDecisions, BitsRoom, WordRead, ReadOff}
 use Rattle.decisions.proofs.Buffers.{length-over}
+use Rattle.decisions.proofs.Folds.{bit-most, no-ties}
 
 -- the front of an overwritten buffer, and what follows it
 module _ {A : Type 0} (new old : List A) (n : ℕ) (e : length new ≡ n) where
@@ -84,27 +87,64 @@ frozen-front [] u tail h = refl
 frozen-front (m ∷ mask) [] tail h = let z : ⊥ = omega arith in absurd z
 frozen-front (m ∷ mask) (x ∷ u) tail h = ap (λ (b : Bool). cond (isUnfrozen m) true (eqb x 0) && b) (frozen-front mask u tail (omega arith))
 
--- ---- the steps of reading off
-module _ (mask : List ℕ) (llrs soft : List ℤ) (hard payload hard′ u : List ℕ) (n : ℕ) (can : Readable mask llrs soft n (length hard) (length payload))
-    (e : hard′ ≡ write hard 0 n (decisionAt llrs soft)) (v : List ℕ) (ev : v ≡ over (transform (exponent n) (take n hard′)) u) where
+-- ---- payload and check, from a longer u
+module _ (mask word u v : List ℕ) (n : ℕ) (allowed : exponent n ≡ 0 → ⊥) (positions : length mask ≡ n) (e : v ≡ over (transform (exponent n) word) u) where
+  front : v ≡ transform (exponent n) word ++ drop (length (transform (exponent n) word)) u
+  unfolding over
+  front = e
+
+  long : length mask ≤ length (transform (exponent n) word)
+  long = omega (arith, positions, length-transform (exponent n) word, exponent-power n allowed .0)
+
+  pub payload-law : payloadOf mask v ≡ payloadOf mask (transform (exponent n) word)
+  payload-law = ap (payloadOf mask) front ∙ payload-front mask (transform (exponent n) word) (drop (length (transform (exponent n) word)) u) long
+
+  pub check-law : frozenZero mask v ≡ frozenZero mask (transform (exponent n) word)
+  check-law = ap (frozenZero mask) front ∙ frozen-front mask (transform (exponent n) word) (drop (length (transform (exponent n) word)) u) long
+
+-- ---- the steps of reading off: the hard word, and what its undecided bits decide
+module _ (mask : List ℕ) (llrs soft : List ℤ) (hard payload : List ℕ) (n : ℕ) (room : n ≤ length hard) {ties : ℕ} (counted : ties ≡ undecidedIn (wordDecisions llrs soft n)) where
   abbrev W : List ℕ
   W = wordDecisions llrs soft n
 
-  pub hard-law : hard′ ≡ over W hard
-  hard-law = e ∙ write-front 0 hard n (decisionAt llrs soft) (can .bits)
+  hard-law : (hard′ : List ℕ) → hard′ ≡ write hard 0 n (decisionAt llrs soft) → hard′ ≡ over W hard
+  hard-law hard′ e = e ∙ write-front 0 hard n (decisionAt llrs soft) room
 
-  word-law : take n hard′ ≡ W
-  word-law = ap (take n) hard-law ∙ take-over W hard n (length-tabulate n (decisionAt llrs soft))
+  -- with a tie the bits are decided once more, and there is no payload
+  pub read-undecided : (ties ≡ 0 → ⊥) → (signs hard′ : List ℕ) → signs ≡ write hard 0 n (negativeAt llrs soft) → hard′ ≡ write signs 0 n (decisionAt llrs soft)
+      → (k : ℕ) → k ≡ unfrozen mask → (payload′ : List ℕ) → payload′ ≡ over (replicate k 2) payload
+      → ReadOff mask (exponent n) W hard hard′ payload payload′ 0 ties
+  read-undecided some signs hard′ es eh k K payload′ ep =
+      let none : undecidedIn W ≡ 0 → ⊥ = λ z. some (counted ∙ z) in
+      record {
+        hard-is = hard-law hard′
+            (eh ∙ ap (λ (l : List ℕ). write l 0 n (decisionAt llrs soft)) es
+            ∙ write-over 0 hard 0 n (negativeAt llrs soft) (decisionAt llrs soft) (omega (arith, room)));
+        payload-is = ep ∙ ap (λ (m : ℕ). over (replicate m 2) payload) K ∙ ap (λ (l : List ℕ). over l payload) (sym (payload-undecided (exponent n) mask W none));
+        check-is = sym (check-undecided (exponent n) mask W none);
+        undecided-is = counted;
+      }
 
-  front : v ≡ transform (exponent n) W ++ drop (length (transform (exponent n) W)) u
-  unfolding over
-  front = ev ∙ ap (λ (w : List ℕ). over (transform (exponent n) w) u) word-law
+  -- without ties the bits by sign are the hard bits
+  module _ (none : ties ≡ 0) (hard′ : List ℕ) (e : hard′ ≡ write hard 0 n (negativeAt llrs soft)) where
+    no-tie : undecidedIn W ≡ 0
+    no-tie = sym counted ∙ none
 
-  long : length mask ≤ length (transform (exponent n) W)
-  long = omega (arith, can .positions, length-transform (exponent n) W, exponent-power n (can .length-allowed) .0)
+    signs-law : hard′ ≡ over W hard
+    signs-law =
+        hard-law hard′
+        (e ∙ write-ext 0 hard 0 n (negativeAt llrs soft) (decisionAt llrs soft)
+        (no-ties n (decisionAt llrs soft) (λ k. bit-most (plus (softOf (word llrs k)) (softOf (word soft k)))) no-tie))
 
-  pub payload-law : payloadOf mask v ≡ payloadOf mask (transform (exponent n) W)
-  payload-law = ap (payloadOf mask) front ∙ payload-front mask (transform (exponent n) W) (drop (length (transform (exponent n) W)) u) long
+    word-law : take n hard′ ≡ W
+    word-law = ap (take n) signs-law ∙ take-over W hard n (length-tabulate n (decisionAt llrs soft))
 
-  pub check-law : frozenZero mask v ≡ frozenZero mask (transform (exponent n) W)
-  check-law = ap (frozenZero mask) front ∙ frozen-front mask (transform (exponent n) W) (drop (length (transform (exponent n) W)) u) long
+    pub read-bits : {payload′ : List ℕ} {check : ℕ} → WordRead mask (exponent n) (take n hard′) payload payload′ check → ReadOff mask (exponent n) W hard hard′ payload payload′ check 0
+    read-bits {payload′} {check} r =
+        let of-word : WordRead mask (exponent n) W payload payload′ check = subst (λ (w : List ℕ). WordRead mask (exponent n) w payload payload′ check) word-law r in
+        record {
+          hard-is = signs-law;
+          payload-is = of-word .payload-is ∙ ap (λ (l : List ℕ). over l payload) (sym (payload-decided (exponent n) mask W no-tie));
+          check-is = of-word .check-is ∙ sym (check-decided (exponent n) mask W no-tie);
+          undecided-is = sym no-tie;
+        }

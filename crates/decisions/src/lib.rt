@@ -1,32 +1,99 @@
-// What is read off the soft values: hard bits, payload and frozen check.
+// What is read off the soft values: hard bits, payload, frozen check and the number of undecided bits.
 use inputs::UNFROZEN;
 use inputs::larger;
 use transform::transform;
 use words::add_words;
 ghost use mathlib.Core.Path.{_≡_};
 ghost use mathlib.Core.Bool.{cond};
-ghost use Prim.Native.Nat.{ℕ, _≤_, _<_};
-ghost use lib.ListN.{length, take};
+ghost use Prim.Native.Nat.{_≤_, _<_};
+ghost use lib.Dec.{eqb};
+ghost use lib.ListN.{length, take, replicate};
 ghost use Rattle.model.specs.Lists.{bit, over};
 ghost use Rattle.model.specs.Encoding.{isUnfrozen, unfrozen, payloadOf, frozenZero};
 ghost use Rattle.model.specs.Encoding as encoding;
+ghost use Rattle.model.specs.Scan.{signBit, undecidedIn};
 ghost use Rattle.model.specs.Refusals.{exponent};
 ghost use Rattle.words.specs.Words.{word, write, Added};
-ghost use Rattle.decisions.specs.Bits.{decisionAt, wordDecisions, BitsRoom, Readable};
+ghost use Rattle.decisions.specs.Bits.{decisionAt, negativeAt, wordDecisions, Decidable, BitsRoom, WordRoom, WordRead, Readable, ReadOff};
 
-// The hard bits: 1 exactly if LLR plus soft is negative.
+// The byte of an undecided bit, and of each payload bit of a word that has one.
+const UNDECIDED: u8 = 2;
+
+// LLR plus soft value, at a place.
+fn sum_at(llrs: &[i16], soft: &[i32], k: usize) -> i32
+    requires { ⌜ (k < length (now llrs)) × (k < length (now soft)) × Added (word (now llrs) k) (word (now soft) k) ⌝ }
+    ensures { λ r. ⌜ signBit r ≡ decisionAt (now (llrs .entry)) (now (soft .entry)) k ⌝ }
+{
+    let llr = llrs[k] as i32;
+    let value = soft[k];
+    let both = add_words(llr, value);
+    both
+}
+
+// 1 for a negative sum, 0 for another.
+fn negative_bit(sum: i32) -> u8
+    ensures { λ r. ⌜ r ≡ bit (eqb (signBit sum) 1) ⌝ }
+{
+    (sum < 0) as u8
+}
+
+// 1 for a tie, a sum of 0, and 0 for another.
+fn tie_bit(sum: i32) -> u32
+    ensures { λ r. ⌜ r ≡ bit (eqb (signBit sum) 2) ⌝ }
+{
+    (sum == 0) as u32
+}
+
+// The bits by the signs of LLR plus soft, where there is no tie; answers the number of ties. Most words have none, and so
+// ties are only counted here: this costs the loop less than a choice between three bits.
+fn decide_signs(llrs: &[i16], soft: &[i32], hard: &mut [u8], size: usize) -> u32
+    requires { ⌜ Decidable (now llrs) (now soft) size (length (now hard)) ⌝ }
+    ensures { λ r. ⌜ r ≡ undecidedIn (wordDecisions (now (llrs .entry)) (now (soft .entry)) size) ⌝ }
+    ensures { λ _. ⌜ now (hard .exit) ≡ write (now (hard .entry)) 0 size (negativeAt (now (llrs .entry)) (now (soft .entry))) ⌝ }
+{
+    let mut ties: u32 = 0;
+    let mut k = 0;
+    while k < size {
+        let sum = sum_at(llrs, soft, k);
+        hard[k] = negative_bit(sum);
+        ties += tie_bit(sum);
+        k += 1;
+    }
+    ties
+}
+
+// The hard bit by the sign of a sum.
+fn hard_bit(sum: i32) -> u8
+    ensures { λ r. ⌜ r ≡ signBit sum ⌝ }
+{
+    if sum == 0 {
+        UNDECIDED
+    } else {
+        negative_bit(sum)
+    }
+}
+
+// The hard bits, by the signs of LLR plus soft.
 fn decide(llrs: &[i16], soft: &[i32], hard: &mut [u8], size: usize)
-    requires { ⌜ (size ≤ length (now llrs)) × (size ≤ length (now soft)) × (size ≤ length (now hard)) ⌝ }
-    requires { ⌜ ((k : ℕ) → k < size → Added (word (now llrs) k) (word (now soft) k)) ⌝ }
+    requires { ⌜ Decidable (now llrs) (now soft) size (length (now hard)) ⌝ }
     ensures { λ _. ⌜ now (hard .exit) ≡ write (now (hard .entry)) 0 size (decisionAt (now (llrs .entry)) (now (soft .entry))) ⌝ }
 {
     let mut k = 0;
     while k < size {
-        let llr = llrs[k] as i32;
-        let value = soft[k];
-        let sum = add_words(llr, value);
-        hard[k] = (sum < 0) as u8;
+        hard[k] = hard_bit(sum_at(llrs, soft, k));
         k += 1;
+    }
+}
+
+// The payload where a bit is undecided: its K bytes are 2.
+fn leave_undecided(payload: &mut [u8], k: usize)
+    requires { ⌜ k ≤ length (now payload) ⌝ }
+    ensures { λ _. ⌜ now (payload .exit) ≡ over (replicate k 2) (now (payload .entry)) ⌝ }
+{
+    let mut i = 0;
+    while i < k {
+        payload[i] = UNDECIDED;
+        i += 1;
     }
 }
 
@@ -88,7 +155,37 @@ fn decoded_bits(hard: &[u8], u: &mut [u8], size: usize)
     transform(&mut u[..size]);
 }
 
-// Hard bits and payload from the soft values' words; answers the frozen check.
+// The payload of a hard word of N bits that are all decided, through a buffer for the decoded u; answers the frozen check.
+fn read_through(mask: &[u8], hard: &[u8], payload: &mut [u8], u: &mut [u8], size: usize) -> u8
+    requires { ⌜ WordRoom (now mask) size (length (now hard)) (length (now payload)) × (size ≤ length (now u)) ⌝ }
+    ensures { λ r. ⌜ WordRead (now (mask .entry)) (exponent size) (take size (now (hard .entry))) (now (payload .entry)) (now (payload .exit)) r ⌝ }
+{
+    decoded_bits(hard, u, size);
+    read_payload(mask, u, payload);
+    frozen_check(mask, u)
+}
+
+// The payload of a hard word of N bits that are all decided; answers the frozen check. A short word has a short buffer,
+// since clearing the long one would cost it more than the rest.
+fn read_decided(mask: &[u8], hard: &[u8], payload: &mut [u8], size: usize) -> u8
+    requires { ⌜ WordRoom (now mask) size (length (now hard)) (length (now payload)) ⌝ }
+    ensures { λ r. ⌜ WordRead (now (mask .entry)) (exponent size) (take size (now (hard .entry))) (now (payload .entry)) (now (payload .exit)) r ⌝ }
+{
+    if size <= 64 {
+        let mut short = [0u8; 64];
+        return read_through(mask, hard, payload, &mut short, size);
+    }
+    let mut long = [0u8; 1024];
+    read_through(mask, hard, payload, &mut long, size)
+}
+
+// The frozen check and the number of undecided bits.
+pub struct Result {
+    pub check: u8,
+    pub undecided: u16,
+}
+
+// Hard bits and payload from the soft values' words; K is the number of payload bits.
 pub fn read_off(
     mask: &[u8],
     llrs: &[i16],
@@ -96,15 +193,23 @@ pub fn read_off(
     hard: &mut [u8],
     payload: &mut [u8],
     size: usize,
-) -> u8
-    requires { ⌜ Readable (now mask) (now llrs) (now soft) size (length (now hard)) (length (now payload)) ⌝ }
-    ensures { λ r. ⌜ r ≡ bit (frozenZero (now (mask .entry)) (encoding.transform (exponent size) (wordDecisions (now (llrs .entry)) (now (soft .entry)) size))) ⌝ }
-    ensures { λ _. ⌜ now (hard .exit) ≡ over (wordDecisions (now (llrs .entry)) (now (soft .entry)) size) (now (hard .entry)) ⌝ }
-    ensures { λ _. ⌜ now (payload .exit) ≡ over (payloadOf (now (mask .entry)) (encoding.transform (exponent size) (wordDecisions (now (llrs .entry)) (now (soft .entry)) size))) (now (payload .entry)) ⌝ }
+    k: usize,
+) -> Result
+    requires { ⌜ Readable (now mask) (now llrs) (now soft) size k (length (now hard)) (length (now payload)) ⌝ }
+    ensures { λ r. ⌜ ReadOff (now (mask .entry)) (exponent size) (wordDecisions (now (llrs .entry)) (now (soft .entry)) size) (now (hard .entry)) (now (hard .exit)) (now (payload .entry)) (now (payload .exit)) (r .check) (r .undecided) ⌝ }
 {
+    let ties = decide_signs(llrs, soft, hard, size);
+    if ties == 0 {
+        let check = read_decided(mask, hard, payload, size);
+        return Result {
+            check,
+            undecided: 0,
+        };
+    }
     decide(llrs, soft, hard, size);
-    let mut u = [0u8; 1024];
-    decoded_bits(hard, &mut u, size);
-    read_payload(mask, &u, payload);
-    frozen_check(mask, &u)
+    leave_undecided(payload, k);
+    Result {
+        check: 0,
+        undecided: ties as u16,
+    }
 }

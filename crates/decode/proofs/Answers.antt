@@ -8,15 +8,15 @@ use native.Mathlib.Omega.{arith}
 use borrow.Author.Tests.{eq-eqb, ne-eqb, leb-true}
 use lib.Dec.{eqb, leb}
 use lib.IntN.{ℤ, pos, natAbs}
-use lib.ListN.{length, getD, replicate, List·getD-map, length-append}
-use Rattle.model.specs.Lists.{tabulate, over, bit}
+use lib.ListN.{length, getD, List·getD-map, length-append}
+use Rattle.model.specs.Lists.{tabulate, over}
 use Rattle.model.specs.Soft.{Soft, finite, softZero, _at_, plus, mark, wordOf, maxLlr, softOf}
 use lib.Pow.{pow-mono}
-use Rattle.model.specs.Encoding.{unfrozen, transform, payloadOf, frozenZero}
-use Rattle.model.specs.Scan.{Tree, message, start, toNode, visit, sweeps, scan, hardBit, hardWord, decided, decodeScan}
+use Rattle.model.specs.Encoding.{unfrozen}
+use Rattle.model.specs.Scan.{Tree, message, start, toNode, visit, sweeps, scan, hardBit, hardWord, undecidedIn, decidedPayload, decidedCheck, decided, decodeScan}
 use Rattle.model.specs.Bounds.{Small, Under, limit}
-use Rattle.model.specs.Refusals.{refusal, row-1, row-2, row-3, row-4, row-5, row-6, row-7, row-11, row-12, exponent, DecodeCall, decodeNumber, decodeAnswer, decodeCycles, decodeCheck, decodeSoft, decodeHard, decodePayload, decodeWork}
-use Rattle.model.proofs.Lists.{length-tabulate, tabulate-ext, double}
+use Rattle.model.specs.Refusals.{refusal, row-1, row-2, row-3, row-4, row-5, row-6, row-7, row-11, row-12, exponent, DecodeCall, decodeNumber, decodeAnswer, decodeCycles, decodeCheck, decodeUndecided, decodeSoft, decodeHard, decodePayload, decodeWork}
+use Rattle.model.proofs.Lists.{length-tabulate, tabulate-same, tabulate-ext, double}
 use Rattle.model.proofs.Bounds.{soft-under, cap-limit, under-mono}
 use Rattle.model.proofs.Refusals.{refusal-then, passes, llrs-small}
 use Rattle.model.proofs.Theorems.{decision-bound, cycles-most}
@@ -25,7 +25,7 @@ use Rattle.words.specs.Words.{word, write, stored, addWord, Added}
 use Rattle.words.proofs.Laws.{soft-fin, soft-word, word-in}
 use Rattle.words.proofs.Store.{write-in, length-write}
 use Rattle.scan.specs.Space.{Decodable}
-use Rattle.decisions.specs.Bits.{decisionAt, wordDecisions, Readable}
+use Rattle.decisions.specs.Bits.{decisionAt, wordDecisions, Readable, ReadOff}
 use Rattle.decisions.proofs.Reading.{write-front}
 use Rattle.decode.specs.Calls.{lent, Given, callOf, Outcome}
 use Rattle.decode.specs.Steps.{inputNumber, Passed}
@@ -67,11 +67,6 @@ tabulate-map f (x ∷ l) d = ap (λ xs. f x ∷ xs) (tabulate-map f l d)
 
 by-places : {A B : Type 0} (f : A → B) (l : List A) (d : A) (n : ℕ) → length l ≡ n → tabulate n (λ k. f (getD l k d)) ≡ map f l
 by-places f l d n e = ap (λ (k : ℕ). tabulate k (λ k. f (getD l k d))) (sym e) ∙ tabulate-map f l d
-
-same-places : (n : ℕ) → tabulate n (λ k. pos 0) ≡ replicate n (pos 0)
-unfolding tabulate
-same-places zero = refl
-same-places (suc n) = ap {B = List ℤ} (λ xs. pos 0 ∷ xs) (same-places n)
 
 module _ (g : Given) where
   abbrev pub mask : List ℕ
@@ -132,14 +127,15 @@ module _ (g : Given) where
       ap₂ (λ (x y : ℕ). refusal (row-11 N (length soft) ∷ row-11 N (length hard) ∷ row-11 x (length payload) ∷ row-12 (N * (y + 3)) (length work) ∷ [])) e (p .mask-passed .stage-is)
 
   -- ---- a refused call
-  pub refused-outcome : {number : ℕ} → (number ≡ 0 → ⊥) → number ≡ decodeNumber call → {r c d : ℕ} → r ≡ number → c ≡ 0 → d ≡ 0 → Outcome g (g .buffers) r c d
-  unfolding decodeCycles decodeCheck decodeSoft decodeHard decodePayload decodeWork
-  refused-outcome h e er ec ed =
+  pub refused-outcome : {number : ℕ} → (number ≡ 0 → ⊥) → number ≡ decodeNumber call → {r c d u : ℕ} → r ≡ number → c ≡ 0 → d ≡ 0 → u ≡ 0 → Outcome g (g .buffers) r c d u
+  unfolding decodeCycles decodeCheck decodeUndecided decodeSoft decodeHard decodePayload decodeWork
+  refused-outcome h e er ec ed eu =
       let b : eqb (decodeNumber call) 0 ≡ false = ne-eqb (decodeNumber call) 0 (λ z. h (e ∙ z)) in
       record {
         number-is = er ∙ e;
         cycles-is = ec ∙ sym (rw b);
         check-is = ed ∙ sym (rw b);
+        undecided-is = eu ∙ sym (rw b);
         left = record { soft-is = sym (rw b); hard-is = sym (rw b); payload-is = sym (rw b); work-is = sym (rw b) };
       }
 
@@ -223,16 +219,23 @@ module _ (g : Given) where
               (decision-bound t (p .mask-passed .low) mask (map finite llrs) (llrs-small t llrs (p .range)) k j (omega (arith, p .mask-passed .sized)))),
         )
 
-        pub readable : Readable mask llrs soft′ N (length hard) (length payload)
-        readable = record {
-          length-allowed = λ e. p .mask-passed .not-zero (p .mask-passed .stage-is ∙ e);
-          few = few;
-          positions = refl;
-          values = omega (arith, p .values);
-          softs = omega (arith, ap length es, length-stored, soft-room);
-          bits = hard-room;
-          payload-room = payload-room;
-          sums = sums;
+        pub readable : {count : ℕ} → count ≡ unfrozen mask → Readable mask llrs soft′ N count (length hard) (length payload)
+        readable is = record {
+          room = record {
+            length-allowed = λ e. p .mask-passed .not-zero (p .mask-passed .stage-is ∙ e);
+            few = few;
+            positions = refl;
+            bits = hard-room;
+            payload-room = payload-room;
+          };
+          count = is;
+          sums = record {
+            few = few;
+            values = omega (arith, p .values);
+            softs = omega (arith, ap length es, length-stored, soft-room);
+            bits = hard-room;
+            sums = sums;
+          };
         }
           where
             length-stored : length (stored soft 0 N (scan t mask (map finite llrs) k)) ≡ length soft
@@ -246,8 +249,9 @@ module _ (g : Given) where
             (λ j lt. ap hardBit (ap₂ plus (llr-place j) (soft-place j lt)))
             ∙ ap (λ (m : ℕ). tabulate m (λ j. hardBit (plus (map finite llrs at j) (scan t mask (map finite llrs) k at j)))) (p .mask-passed .sized)
 
-        u-is : transform (exponent N) (wordDecisions llrs soft′ N) ≡ transform t (hardWord t (map finite llrs) (scan t mask (map finite llrs) k))
-        u-is = ap₂ transform (sym (p .mask-passed .stage-is)) decisions-are
+        -- what is read off it, in the call's exponent
+        read-is : {A : Type 0} (f : ℕ → List ℕ → A) → f (exponent N) (wordDecisions llrs soft′ N) ≡ f t (hardWord t (map finite llrs) (scan t mask (map finite llrs) k))
+        read-is f = ap₂ f (sym (p .mask-passed .stage-is)) decisions-are
 
         -- the definition's answer in the call's exponent
         answer-is : decodeAnswer call ≡ decodeScan t mask (map finite llrs) k
@@ -258,26 +262,25 @@ module _ (g : Given) where
           accept : eqb (decodeNumber call) 0 ≡ true
           accept = eq-eqb (decodeNumber call) 0 (sym zero-is)
 
-          pub accepted-outcome : {r c d : ℕ} {hard′ payload′ : List ℕ} {work′ : List ℤ} → r ≡ 0 → c ≡ k * cycles
-              → d ≡ bit (frozenZero mask (transform (exponent N) (wordDecisions llrs soft′ N)))
-              → hard′ ≡ over (wordDecisions llrs soft′ N) hard
-              → payload′ ≡ over (payloadOf mask (transform (exponent N) (wordDecisions llrs soft′ N))) payload
+          pub accepted-outcome : {r c d u check undecided : ℕ} {hard′ payload′ : List ℕ} {work′ : List ℤ} → r ≡ 0 → c ≡ k * cycles → d ≡ check → u ≡ undecided
+              → ReadOff mask (exponent N) (wordDecisions llrs soft′ N) hard hard′ payload payload′ check undecided
               → work′ ≡ write work 0 (N * (t + 3)) (λ i. pos 0)
-              → Outcome g (lent soft′ hard′ payload′ work′) r c d
-          unfolding decodeCycles decodeCheck decodeSoft decodeHard decodePayload decodeWork decodeScan decided
-          accepted-outcome er ec ed eh ep ew = record {
+              → Outcome g (lent soft′ hard′ payload′ work′) r c d u
+          unfolding decodeCycles decodeCheck decodeUndecided decodeSoft decodeHard decodePayload decodeWork decodeScan decided
+          accepted-outcome er ec ed eu off ew = record {
             number-is = er ∙ zero-is;
             cycles-is = ec ∙ ap (λ (m : ℕ). k * m) (p .cycles-is ∙ ap (λ (m : ℕ). plans.cycles plan m 1 mask) (p .mask-passed .stage-is)) ∙ sym (rw accept);
-            check-is = ed ∙ ap (λ (v : List ℕ). bit (frozenZero mask v)) u-is ∙ sym (rw accept (ap (λ a. a .check) answer-is));
+            check-is = ed ∙ off .check-is ∙ read-is (λ n w. decidedCheck n mask w) ∙ sym (rw accept (ap (λ a. a .check) answer-is));
+            undecided-is = eu ∙ off .undecided-is ∙ read-is (λ n w. undecidedIn w) ∙ sym (rw accept (ap (λ a. a .undecided) answer-is));
             left = record {
               soft-is = es ∙ write-front (pos 0) soft N (λ i. wordOf (scan t mask (map finite llrs) k at i)) soft-room
                   ∙ ap (λ (l : List ℤ). over l soft) (by-places wordOf (scan t mask (map finite llrs) k) softZero N (scan-length t (p .mask-passed .not-zero) mask (map finite llrs) k ∙ sym (p .mask-passed .sized)))
                   ∙ sym (rw accept (ap (λ a. over (map wordOf (a .soft)) soft) answer-is));
-              hard-is = eh ∙ ap (λ (l : List ℕ). over l hard) decisions-are ∙ sym (rw accept (ap (λ a. over (a .hard) hard) answer-is));
-              payload-is = ep ∙ ap (λ (v : List ℕ). over (payloadOf mask v) payload) u-is ∙ sym (rw accept (ap (λ a. over (a .payload) payload) answer-is));
+              hard-is = off .hard-is ∙ ap (λ (l : List ℕ). over l hard) decisions-are ∙ sym (rw accept (ap (λ a. over (a .hard) hard) answer-is));
+              payload-is = off .payload-is ∙ read-is (λ n w. over (decidedPayload n mask w) payload) ∙ sym (rw accept (ap (λ a. over (a .payload) payload) answer-is));
               work-is = ew ∙ ap (λ (m : ℕ). write work 0 (N * (m + 3)) (λ i. pos 0)) (p .mask-passed .stage-is)
                   ∙ write-front (pos 0) work (N * (n + 3)) (λ i. pos 0) work-room
-                  ∙ ap (λ (l : List ℤ). over l work) (same-places (N * (n + 3))) ∙ sym (rw accept);
+                  ∙ ap (λ (l : List ℤ). over l work) (tabulate-same (N * (n + 3)) (pos 0)) ∙ sym (rw accept);
             };
           }
 

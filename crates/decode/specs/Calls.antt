@@ -4,7 +4,7 @@ use mathlib.Core.List.{List}
 use Prim.Native.Nat.{ℕ}
 use lib.IntN.{ℤ}
 use lib.ListN.{length}
-use Rattle.model.specs.Refusals.{DecodeCall, decodeNumber, decodeCycles, decodeCheck, decodeSoft, decodeHard, decodePayload, decodeWork}
+use Rattle.model.specs.Refusals.{DecodeCall, decodeNumber, decodeCycles, decodeCheck, decodeUndecided, decodeSoft, decodeHard, decodePayload, decodeWork}
 
 -- the buffers that a decode is lent: soft values, hard word, payload, workspace
 pub record Lent : Type 0 where
@@ -51,8 +51,9 @@ pub record Left (g : Given) (after : Lent) : Type 0 where
   pub work-is : after .work ≡ decodeWork (callOf g) (g .buffers .work)
 
 -- what it answers and leaves
-pub record Outcome (g : Given) (after : Lent) (number cycles check : ℕ) : Type 0 where
+pub record Outcome (g : Given) (after : Lent) (number cycles check undecided : ℕ) : Type 0 where
   pub number-is : number ≡ decodeNumber (callOf g)
   pub cycles-is : cycles ≡ decodeCycles (callOf g)
   pub check-is : check ≡ decodeCheck (callOf g)
+  pub undecided-is : undecided ≡ decodeUndecided (callOf g)
   pub left : Left g after

@@ -16,20 +16,22 @@ ghost use Rattle.model.specs.Refusals.{llrsInRange, refusal, row-3, row-4, row-
 ghost use Rattle.decode.specs.Calls.{lent, given, Outcome};
 ghost use Rattle.decode.specs.Steps.{InputTests};
 
-// What a decode answers: the number, and for an accepted call the cycles and the frozen check.
+// What a decode answers: the number, and for an accepted call the cycles, the frozen check and the number of undecided bits.
 pub struct Decoded {
     pub number: u32,
     pub cycles: u32,
     pub check: u8,
+    pub undecided: u16,
 }
 
-fn answer(number: u32, cycles: u32, check: u8) -> Decoded
-    ensures { λ r. ⌜ (r .number ≡ number) × (r .cycles ≡ cycles) × (r .check ≡ check) ⌝ }
+fn answer(number: u32, cycles: u32, check: u8, undecided: u16) -> Decoded
+    ensures { λ r. ⌜ (r .number ≡ number) × (r .cycles ≡ cycles) × (r .check ≡ check) × (r .undecided ≡ undecided) ⌝ }
 {
     Decoded {
         number,
         cycles,
         check,
+        undecided,
     }
 }
 
@@ -132,11 +134,11 @@ pub fn decode(
         (given (now (mask .entry)) (now (plan .entry)) sweeps (now (llrs .entry))
         (lent (now (soft .entry)) (now (hard .entry)) (now (payload .entry)) (now (work .entry))))
         (lent (now (soft .exit)) (now (hard .exit)) (now (payload .exit)) (now (work .exit)))
-        (r .number) (r .cycles) (r .check) ⌝ }
+        (r .number) (r .cycles) (r .check) (r .undecided) ⌝ }
 {
     let input = input_tests(mask, plan, sweeps, llrs);
     if input.number != 0 {
-        return answer(input.number, 0, 0);
+        return answer(input.number, 0, 0, 0);
     }
     let size = mask.len();
     let stage = input.stage;
@@ -152,11 +154,11 @@ pub fn decode(
         work.len(),
     );
     if short != 0 {
-        return answer(short, 0, 0);
+        return answer(short, 0, 0, 0);
     }
     soft_values(mask, plan, llrs, sweeps, size, stage, soft, work);
     fill(work, 0, words, 0);
-    let check = read_off(mask, llrs, soft, hard, payload, size);
+    let read = read_off(mask, llrs, soft, hard, payload, size, k);
     let cycles = sweeps as u32 * input.cycles;
-    answer(0, cycles, check)
+    answer(0, cycles, read.check, read.undecided)
 }

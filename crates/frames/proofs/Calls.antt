@@ -67,7 +67,7 @@ module _ {mask plan : List ℕ} (P : Planned mask plan) (drain sweeps : ℕ) (ll
       word-room = omega (arith, R .words, work-room);
     })
 
-    module _ {number cycles check : ℕ} {after : Lent} (o : Outcome g after number cycles check) where
+    module _ {number cycles check undecided : ℕ} {after : Lent} (o : Outcome g after number cycles check undecided) where
       own : number ≡ frameNumber f
       own = o .number-is ∙ left ∙ drain-fits f below
 

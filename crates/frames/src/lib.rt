@@ -12,7 +12,7 @@ ghost use Rattle.frames.specs.Frames.{Planned, Roomy, frameOf, FrameRepl
 // Drain numbers are at most this.
 const MAX_DRAIN: usize = 63;
 
-// 1 where a hard bit differs from an LLR's sign; an LLR of 0 counts as bit 0.
+// 1 where a hard bit differs from an LLR's sign; an LLR of 0 counts as bit 0, and an undecided bit always differs.
 fn differs(llr: i16, bit: u8) -> u16
     ensures { λ r. ⌜ r ≡ differing (llr ∷ []) (bit ∷ []) ⌝ }
 {

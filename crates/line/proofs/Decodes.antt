@@ -2,7 +2,7 @@
 use mathlib.Core.Path.{_≡_, sym, ap, ap₂, _∙_}
 use mathlib.Core.Bool.{Bool, true, _&&_}
 use mathlib.Core.List.{List, [], map}
-use Prim.Native.Nat.{ℕ, _+_, _*_, _^_, _≤_, _<_, min}
+use Prim.Native.Nat.{ℕ, _+_, _*_, _^_, _≤_, _<_}
 use native.Mathlib.Nat.{mul-le-mul}
 use native.Mathlib.Omega.{arith}
 use borrow.Author.Tests.{eq-eqb, ne-eqb, le-leb}
@@ -16,7 +16,7 @@ use Rattle.model.specs.Encoding.{unfrozen}
 use Rattle.model.specs.Scan.{scan, hardWord, decided, Decoded, decodeScan}
 use Rattle.model.specs.Bounds.{Under, limit}
 use Rattle.model.specs.Plans.{Allowed, isPlan, oneCut, cutsOfKinds, cycles}
-use Rattle.model.specs.Refusals.{exponent, maxSweeps, planNumber, DecodeCall, decodeNumber, decodeAnswer, decodeCycles, decodeCheck, decodeSoft, decodeHard, decodePayload}
+use Rattle.model.specs.Refusals.{exponent, maxSweeps, planNumber, DecodeCall, decodeNumber, decodeAnswer, decodeCycles, decodeCheck, decodeUndecided, decodeSoft, decodeHard, decodePayload}
 use Rattle.model.proofs.Lists.{T-true, true-T, length-tabulate}
 use Rattle.model.proofs.Bounds.{soft-under, cap-limit, under-mono}
 use Rattle.model.proofs.Refusals.{pass, none-left, exponent-power, llrs-small}
@@ -24,14 +24,14 @@ use Rattle.decode.specs.Calls.{Lent, given, callOf, Outcome}
 use Rattle.decode.proofs.Answers.{scan-length}
 use Rattle.reader.specs.Steps.{Fit}
 use Rattle.printer.specs.Text.{okText, decoded}
-use Rattle.printer.specs.Put.{Printed}
 use Rattle.printer.proofs.Whole.{softs-back}
 use Rattle.line.specs.Program.{decodeText, maxText}
-use Rattle.model.proofs.Payload.{length-payload, unfrozen-most}
+use Rattle.model.proofs.Payload.{unfrozen-most}
+use Rattle.model.proofs.Undecided.{length-decided}
 
 -- the printer's bound for parts of the decoder's buffers
 pub room-enough : {A : Type 0} (n k : ℕ) (soft : List A) (hard payload : List ℕ) → length soft ≡ 1024 → length hard ≡ 1024 → length payload ≡ 1024
-    → 12 * length (take n soft) + length (take n hard) + length (take k payload) + 19 ≤ maxText
+    → 12 * length (take n soft) + length (take n hard) + length (take k payload) + 25 ≤ maxText
 room-enough n k soft hard payload a b e =
     let s : length (take n soft) ≤ 1024 = omega (arith, length-take n soft) in
     let h : length (take n hard) ≤ 1024 = omega (arith, length-take n hard) in
@@ -47,9 +47,9 @@ unfolding over
 front n new old e = take-at new (drop (length new) old) n e
 
 -- an answer by its parts
-parts : (d : Decoded) (soft : List Soft) (hard payload : List ℕ) (check : ℕ) → soft ≡ d .soft → hard ≡ d .hard → payload ≡ d .payload → check ≡ d .check
-    → decoded soft hard payload check ≡ d
-parts d soft hard payload check a b e f = rw (a, b, e, f)
+parts : (d : Decoded) (soft : List Soft) (hard payload : List ℕ) (check undecided : ℕ) → soft ≡ d .soft → hard ≡ d .hard → payload ≡ d .payload → check ≡ d .check
+    → undecided ≡ d .undecided → decoded soft hard payload check undecided ≡ d
+parts d soft hard payload check undecided a b e f g = rw (a, b, e, f, g)
 
 -- the planner accepts the mask
 pub plan-accepted : {mask : List ℕ} {k : ℕ} {llrs : List ℤ} → Fit mask k llrs → (room : ℕ) → room ≡ 2048 → planNumber mask room ≡ 0
@@ -109,24 +109,25 @@ module _ (mask plan : List ℕ) (k : ℕ) (llrs : List ℤ) (f : Fit mask k llrs
         under-mono (scan n mask (map finite llrs) k at j) (let c = cap-limit n (exponent-power N (f .allowed) .1) in omega arith)
         (soft-under n mask (map finite llrs) (llrs-small n llrs (true-T _ (f .range))) k j lt)
 
-    module _ {number c check : ℕ} {after : Lent} (o : Outcome (given mask plan k llrs b) after number c check) where
+    module _ {number c check undecided : ℕ} {after : Lent} (o : Outcome (given mask plan k llrs b) after number c check undecided) where
       cycles-are : c ≡ k * cycles plan n 1 mask
       unfolding decodeCycles
       cycles-are = o .cycles-is ∙ rw accept
 
-      answer-is : (K : ℕ) → K ≡ unfrozen mask → decoded (map softOf (take N (after .soft))) (take N (after .hard)) (take K (after .payload)) check ≡ answer
-      unfolding decodeCheck decodeSoft decodeHard decodePayload decodeAnswer decodeScan decided hardWord
+      answer-is : (K : ℕ) → K ≡ unfrozen mask → decoded (map softOf (take N (after .soft))) (take N (after .hard)) (take K (after .payload)) check undecided ≡ answer
+      unfolding decodeCheck decodeUndecided decodeSoft decodeHard decodePayload decodeAnswer decodeScan decided hardWord
       answer-is K eK =
           let sized : N ≡ 2 ^ n = exponent-power N (f .allowed) .0 in
           let S : List Soft = scan n mask (map finite llrs) k in
           let long : length S ≡ 2 ^ n = scan-length n (f .allowed) mask (map finite llrs) k in
-          parts answer (map softOf (take N (after .soft))) (take N (after .hard)) (take K (after .payload)) check
+          parts answer (map softOf (take N (after .soft))) (take N (after .hard)) (take K (after .payload)) check undecided
           (ap (λ (l : List ℤ). map softOf (take N l)) (o .left .soft-is ∙ rw accept)
           ∙ ap (map softOf) (front N (map wordOf S) (b .soft) (length-map S wordOf ∙ long ∙ sym sized))
           ∙ softs-back S (λ j lt. under j (omega (arith, long))))
           (ap (take N) (o .left .hard-is ∙ rw accept) ∙ front N (answer .hard) (b .hard) (length-tabulate (2 ^ n) _ ∙ sym sized))
-          (ap (take K) (o .left .payload-is ∙ rw accept) ∙ front K (answer .payload) (b .payload) (length-payload mask _ ∙ sym eK))
+          (ap (take K) (o .left .payload-is ∙ rw accept) ∙ front K (answer .payload) (b .payload) (length-decided n mask (answer .hard) ∙ sym eK))
           (o .check-is ∙ rw accept)
+          (o .undecided-is ∙ rw accept)
 
-      pub text-is : (K : ℕ) → K ≡ unfrozen mask → okText c (decoded (map softOf (take N (after .soft))) (take N (after .hard)) (take K (after .payload)) check) ≡ decodeText plan mask k llrs
+      pub text-is : (K : ℕ) → K ≡ unfrozen mask → okText c (decoded (map softOf (take N (after .soft))) (take N (after .hard)) (take K (after .payload)) check undecided) ≡ decodeText plan mask k llrs
       text-is K eK = ap₂ okText cycles-are (answer-is K eK)

@@ -1,10 +1,10 @@
--- Document 01's line and its answer, by computing the definitions. Assumes nothing.
+-- Document 01's line and one with undecided bits, with their answers, by computing the definitions. Assumes nothing.
 use mathlib.Core.Path.{_≡_, refl}
 use mathlib.Core.List.{[], _∷_}
 use Rattle.model.specs.Lists.{tabulate, total, same, atMost}
 use Rattle.model.specs.Soft.{box, boxℤ, plus}
-use Rattle.model.specs.Encoding.{kernel, kronecker, polarMatrix, times, transform, payloadOf, frozenZero, frozenToZero}
-use Rattle.model.specs.Scan.{leafValue, start, toLeft, toRight, toNode, visit, sweeps, scan, hardWord, decided, decodeScan}
+use Rattle.model.specs.Encoding.{kernel, kronecker, polarMatrix, times, transform, unfrozen, payloadOf, frozenZero, frozenToZero}
+use Rattle.model.specs.Scan.{leafValue, start, toLeft, toRight, toNode, visit, sweeps, scan, hardWord, undecidedIn, decidedPayload, decidedCheck, decided, decodeScan}
 use Rattle.model.specs.Kinds.{kindOf}
 use Rattle.model.specs.Kinds as kinds
 use Rattle.model.specs.Plans.{cyclesBy, plannerBy, levelsBy, cutAtBy}
@@ -14,9 +14,15 @@ use Rattle.reader.specs.Answers.{lineNumber}
 use Rattle.printer.specs.Text.{digitsIn, natText, intText, softText, bitsText, payloadText, spaced, lineText, okFields, okText}
 use Rattle.line.specs.Program.{replyText, answerText}
 
--- `11101000 1 3 -2 5 1 4 -6 2 -1` prints `ok 10 3 -4 2 -7 3 -2 4 -5 01010101 0011 1`
+-- `11101000 1 3 -2 5 1 4 -6 2 -1` prints `ok 10 3 -4 2 -7 3 -2 4 -5 01010101 0011 1 0`
 pub paper : answerText
     (49 ∷ 49 ∷ 49 ∷ 48 ∷ 49 ∷ 48 ∷ 48 ∷ 48 ∷ 32 ∷ 49 ∷ 32 ∷ 51 ∷ 32 ∷ 45 ∷ 50 ∷ 32 ∷ 53 ∷ 32 ∷ 49 ∷ 32 ∷ 52 ∷ 32 ∷ 45 ∷ 54 ∷ 32 ∷ 50 ∷ 32 ∷ 45 ∷ 49 ∷ 10 ∷ [])
-    ≡ 111 ∷ 107 ∷ 32 ∷ 49 ∷ 48 ∷ 32 ∷ 51 ∷ 32 ∷ 45 ∷ 52 ∷ 32 ∷ 50 ∷ 32 ∷ 45 ∷ 55 ∷ 32 ∷ 51 ∷ 32 ∷ 45 ∷ 50 ∷ 32 ∷ 52 ∷ 32 ∷ 45 ∷ 53 ∷ 32 ∷ 48 ∷ 49 ∷ 48 ∷ 49 ∷ 48 ∷ 49 ∷ 48 ∷ 49 ∷ 32 ∷ 48 ∷ 48 ∷ 49 ∷ 49 ∷ 32 ∷ 49 ∷ 10 ∷ []
-unfolding answerText replyText readLine readFields firstOf fields allDigits valueFrom isNumber value allNumbers lineNumber refusal exponentTo atMost llrsInRange okText okFields lineText spaced payloadText bitsText softText intText natText digitsIn cyclesBy plannerBy levelsBy cutAtBy kindOf decodeScan decided hardWord scan sweeps visit toNode toRight toLeft start leafValue frozenZero payloadOf transform times polarMatrix kronecker kernel box boxℤ plus tabulate total same kinds.firstOf frozenToZero
+    ≡ 111 ∷ 107 ∷ 32 ∷ 49 ∷ 48 ∷ 32 ∷ 51 ∷ 32 ∷ 45 ∷ 52 ∷ 32 ∷ 50 ∷ 32 ∷ 45 ∷ 55 ∷ 32 ∷ 51 ∷ 32 ∷ 45 ∷ 50 ∷ 32 ∷ 52 ∷ 32 ∷ 45 ∷ 53 ∷ 32 ∷ 48 ∷ 49 ∷ 48 ∷ 49 ∷ 48 ∷ 49 ∷ 48 ∷ 49 ∷ 32 ∷ 48 ∷ 48 ∷ 49 ∷ 49 ∷ 32 ∷ 49 ∷ 32 ∷ 48 ∷ 10 ∷ []
+unfolding answerText replyText readLine readFields firstOf fields allDigits valueFrom isNumber value allNumbers lineNumber refusal exponentTo atMost llrsInRange okText okFields lineText spaced payloadText bitsText softText intText natText digitsIn cyclesBy plannerBy levelsBy cutAtBy kindOf decodeScan decided decidedPayload decidedCheck undecidedIn hardWord scan sweeps visit toNode toRight toLeft start leafValue frozenZero payloadOf unfrozen transform times polarMatrix kronecker kernel box boxℤ plus tabulate total same kinds.firstOf frozenToZero
 paper = refl
+
+-- `10 1 5 -5` prints `ok 2 -5 5 22 2 0 2`: both sums are 0
+pub tie : answerText (49 ∷ 48 ∷ 32 ∷ 49 ∷ 32 ∷ 53 ∷ 32 ∷ 45 ∷ 53 ∷ 10 ∷ [])
+    ≡ 111 ∷ 107 ∷ 32 ∷ 50 ∷ 32 ∷ 45 ∷ 53 ∷ 32 ∷ 53 ∷ 32 ∷ 50 ∷ 50 ∷ 32 ∷ 50 ∷ 32 ∷ 48 ∷ 32 ∷ 50 ∷ 10 ∷ []
+unfolding answerText replyText readLine readFields firstOf fields allDigits valueFrom isNumber value allNumbers lineNumber refusal exponentTo atMost llrsInRange okText okFields lineText spaced payloadText bitsText softText intText natText digitsIn cyclesBy plannerBy levelsBy cutAtBy kindOf decodeScan decided decidedPayload decidedCheck undecidedIn hardWord scan sweeps visit toNode toRight toLeft start leafValue frozenZero payloadOf unfrozen transform times polarMatrix kronecker kernel box boxℤ plus tabulate total same kinds.firstOf frozenToZero
+tie = refl

@@ -29,6 +29,6 @@ replyText line = accepted (lineNumber line) (plannedText (maskOf line) (sweepsOf
 unfoldable pub answerText : List ℕ → List ℕ
 answerText bytes = replyText (readLine bytes)
 
--- no answer has more bytes than this: 12 for each of 1024 soft values, one for each hard bit and payload bit, and 19 for the rest
+-- no answer has more bytes than this: 12 for each of 1024 soft values, one for each hard bit and payload bit, and 25 for the rest
 abbrev pub maxText : ℕ
-maxText = 12 * 1024 + 1024 + 1024 + 19
+maxText = 12 * 1024 + 1024 + 1024 + 25

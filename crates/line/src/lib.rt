@@ -40,6 +40,7 @@ fn answer_along(mask: &[u8], plan: &[u8], sweeps: usize, llrs: &[i16], out: &mut
         &hard[..size],
         &payload[..k],
         d.check,
+        d.undecided,
         out,
     )
 }

@@ -1,5 +1,5 @@
 -- Bytes that reads have put one behind another, with no line feed yet. Assumes nothing.
-use mathlib.Core.Path.{_≡_, refl, ap}
+use mathlib.Core.Path.{_≡_, refl, sym, ap}
 use mathlib.Core.Bool.{Bool, true, false, cond}
 use mathlib.Core.List.{List, [], _∷_}
 use Prim.Native.Nat.{ℕ, zero, suc, _+_, _-_, _≤_}
@@ -8,6 +8,7 @@ use lib.Dec.{eqb}
 use lib.ListN.{length, take, drop, length-append, length-take, length-drop}
 use lib.Seq.{take-at, length-take-le}
 use borrow.Rule.Slice.PartMut.{putMid}
+use Rattle.io.specs.Counts.{Counts}
 use Rattle.fields.specs.Grammar.{firstOf}
 
 -- ---- a buffer after a read behind its first n bytes
@@ -21,6 +22,10 @@ mid-length n l g h e =
 
 pub more-fits : (n r : ℕ) (b : List ℕ) → n ≤ length b → r ≤ length (take (length b - n) (drop n b)) → n + r ≤ length b
 more-fits n r b h p = omega (arith, length-take (length b - n) (drop n b), length-drop n b)
+
+-- a number of bytes that a buffer has
+pub counts-to : (n : ℕ) (l : List ℕ) → n ≤ length l → Counts n l
+counts-to n l h = (h, sym (length-take-le n l h))
 
 -- ---- where the first byte b stands, if the first n bytes have none
 pub first-after : (b n : ℕ) (l : List ℕ) → n ≤ length l → firstOf b (take n l) ≡ n → firstOf b l ≡ n + firstOf b (drop n l)

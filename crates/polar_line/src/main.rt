@@ -4,7 +4,9 @@ use libc::STDOUT_FILENO;
 ghost use mathlib.Core.Path.{_≡_};
 ghost use Prim.Native.Nat.{_+_, _<_, _≤_};
 ghost use lib.ListN.{length, take};
-ghost use Rattle.fields.specs.Grammar.{firstOf, feed};
+ghost use Rattle.io.specs.Counts.{Counts};
+ghost use Rattle.fields.specs.Grammar.{firstOf, feed, maxLine};
+ghost use Rattle.line.specs.Program.{answerText, maxText};
 
 // One read, behind the first n bytes. It is made only where there is room and no line feed has come yet, so the program
 // never waits for more than the line.
@@ -18,9 +20,10 @@ fn read_more(buf: &mut [u8], n: usize) -> usize
     io::count(got, &buf[n..])
 }
 
-// Reads until a line feed has come, the buffer is full or the input ends; answers the number of bytes read.
+// Reads until a line feed has come, the buffer is full or the input ends; answers the number of bytes read. The buffer holds the longest line.
 fn read_input(buf: &mut [u8]) -> usize
-    ensures { λ r. ⌜ r ≤ length (now (buf .exit)) ⌝ }
+    requires { ⌜ maxLine ≤ length (now buf) ⌝ }
+    ensures { λ r. ⌜ Counts r (now (buf .exit)) ⌝ }
 {
     let mut n: usize = 0;
     while n < buf.len() {
@@ -37,11 +40,19 @@ fn read_input(buf: &mut [u8]) -> usize
     n
 }
 
-// The buffers hold the longest line and the longest answer.
+// What is printed for a line, at the front of a buffer that holds the longest text; answers its length.
+fn whole_text(bytes: &[u8], out: &mut [u8]) -> usize
+    requires { ⌜ maxText ≤ length (now out) ⌝ }
+    ensures { λ r. ⌜ Counts r (now (out .exit)) ⌝ }
+    ensures { λ r. ⌜ take r (now (out .exit)) ≡ answerText (now (bytes .entry)) ⌝ }
+{
+    line::answer(bytes, out)
+}
+
 fn main() {
     let mut buf = [0u8; 16384];
     let n = read_input(&mut buf);
-    let mut out = [0u8; 14355];
-    let k = line::answer(&buf[..n], &mut out);
+    let mut out = [0u8; 14361];
+    let k = whole_text(&buf[..n], &mut out);
     io::write_all(STDOUT_FILENO, &out[..k]);
 }

@@ -194,11 +194,12 @@ softs-clean (s ∷ ss) = rw (soft-clean s) (softs-clean ss)
 bits-clean : (bits : List ℕ) → allFrom 33 (bitsText bits) ≡ true
 unfolding bitsText allFrom
 bits-clean [] = refl
-bits-clean (b ∷ bits) = rw (one (eqb b 0)) (bits-clean bits)
+bits-clean (b ∷ bits) = rw (one (eqb b 0) (eqb b 2)) (bits-clean bits)
   where
-    one : (t : Bool) → leb 33 (cond t 48 49) ≡ true
-    one true = refl
-    one false = refl
+    one : (t u : Bool) → leb 33 (cond t 48 (cond u 50 49)) ≡ true
+    one true u = refl
+    one false true = refl
+    one false false = refl
 
 payload-clean : (bits : List ℕ) → allFrom 33 (payloadText bits) ≡ true
 unfolding payloadText allFrom
@@ -210,7 +211,7 @@ unfolding okFields allClean bitsText
 ok-clean cycles d =
     rw (nat-clean cycles)
     (clean-append (map softText (d .soft)) _ (softs-clean (d .soft))
-    (rw (bits-clean (d .hard), payload-clean (d .payload), bits-clean (d .check ∷ []))))
+    (rw (bits-clean (d .hard), payload-clean (d .payload), bits-clean (d .check ∷ []), nat-clean (d .undecided))))
 
 pub ok-fields : (cycles : ℕ) (d : Decoded) → fields (lineOf (okText cycles d)) ≡ ok ∷ okFields cycles d
 unfolding okText allFrom

@@ -52,26 +52,28 @@ payload-length [] = omega arith
 payload-length (b ∷ s) = omega (arith, bits-length (b ∷ s))
 
 -- the lines, with 12 bytes for each soft value
-pieces-length : (n s h p : List ℕ) (k : ℕ) → length (okPieces n s h p k) ≡ length n + length s + length h + length p + 8
-pieces-length n s h p k =
+pieces-length : (n s h p : List ℕ) (k : ℕ) (u : List ℕ) → length (okPieces n s h p k u) ≡ length n + length s + length h + length p + length u + 9
+pieces-length n s h p k u =
     omega (
       arith,
-      length-append n (s ++ (32 ∷ (h ++ (32 ∷ (p ++ (32 ∷ k ∷ 10 ∷ [])))))),
-      length-append s (32 ∷ (h ++ (32 ∷ (p ++ (32 ∷ k ∷ 10 ∷ []))))),
-      length-append h (32 ∷ (p ++ (32 ∷ k ∷ 10 ∷ []))),
-      length-append p (32 ∷ k ∷ 10 ∷ []),
+      length-append n (s ++ (32 ∷ (h ++ (32 ∷ (p ++ (32 ∷ k ∷ 32 ∷ (u ++ (10 ∷ [])))))))),
+      length-append s (32 ∷ (h ++ (32 ∷ (p ++ (32 ∷ k ∷ 32 ∷ (u ++ (10 ∷ []))))))),
+      length-append h (32 ∷ (p ++ (32 ∷ k ∷ 32 ∷ (u ++ (10 ∷ []))))),
+      length-append p (32 ∷ k ∷ 32 ∷ (u ++ (10 ∷ []))),
+      length-append u (10 ∷ []),
     )
 
-pub ok-size : (cycles k : ℕ) (d : Decoded) → cycles < 2 ^ 32 → length (spaced (map softText (d .soft))) ≤ 12 * k
-    → length (okText cycles d) ≤ 12 * k + length (d .hard) + length (d .payload) + 19
-ok-size cycles k d h s =
+pub ok-size : (cycles k : ℕ) (d : Decoded) → cycles < 2 ^ 32 → d .undecided < 2 ^ 16 → length (spaced (map softText (d .soft))) ≤ 12 * k
+    → length (okText cycles d) ≤ 12 * k + length (d .hard) + length (d .payload) + 25
+ok-size cycles k d h u s =
     omega (
       arith,
       nat-length 9 cycles (omega (arith, h)),
+      nat-length 4 (d .undecided) (omega (arith, u)),
       bits-length (d .hard),
       payload-length (d .payload),
       sym (ap length (ok-pieces cycles d)),
-      pieces-length (natText cycles) (spaced (map softText (d .soft))) (bitsText (d .hard)) (payloadText (d .payload)) (bitText (d .check)),
+      pieces-length (natText cycles) (spaced (map softText (d .soft))) (bitsText (d .hard)) (payloadText (d .payload)) (bitText (d .check)) (natText (d .undecided)),
     )
 
 pub no-size : (number : ℕ) → number < 2 ^ 32 → length (noText number) ≤ 14

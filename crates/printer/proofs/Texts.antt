@@ -1,7 +1,7 @@
 -- The texts by the steps of the code. Assumes nothing.
 use mathlib.Core.Path.{_≡_, refl, sym, ap, _∙_, subst}
 use mathlib.Core.Bool.{Bool, true, false, cond}
-use mathlib.Core.List.{List, [], _∷_, _++_, map, append-assoc}
+use mathlib.Core.List.{List, [], _∷_, _++_, map, append-assoc, append-nil}
 use Prim.Native.Nat.{ℕ, zero, suc, _+_, _/_, _%_, _≤_, _<_}
 use native.Mathlib.Numerals.{add-one}
 use native.Mathlib.Omega.{arith}
@@ -99,30 +99,26 @@ spaced-append [] gs = refl
 spaced-append (f ∷ fs) gs = ap (λ (r : List ℕ). (32 ∷ f) ++ r) (spaced-append fs gs) ∙ sym (append-assoc (32 ∷ f) (spaced fs) (spaced gs))
 
 -- the pieces in which a line is put
-abbrev pub okPieces : List ℕ → List ℕ → List ℕ → List ℕ → ℕ → List ℕ
-okPieces n s h p k = (111 ∷ 107 ∷ 32 ∷ n) ++ (s ++ ((32 ∷ []) ++ (h ++ ((32 ∷ []) ++ (p ++ (32 ∷ k ∷ 10 ∷ []))))))
+abbrev pub okPieces : List ℕ → List ℕ → List ℕ → List ℕ → ℕ → List ℕ → List ℕ
+okPieces n s h p k u = (111 ∷ 107 ∷ 32 ∷ n) ++ (s ++ ((32 ∷ []) ++ (h ++ ((32 ∷ []) ++ (p ++ ((32 ∷ k ∷ 32 ∷ []) ++ (u ++ (10 ∷ []))))))))
 
 abbrev pub noPieces : List ℕ → List ℕ
 noPieces n = (110 ∷ 111 ∷ 32 ∷ n) ++ (10 ∷ [])
 
 -- the line feed goes to the end of the last piece
-feed-in : (n s h p : List ℕ) (k : ℕ)
-    → (n ++ (s ++ (32 ∷ (h ++ (32 ∷ (p ++ (32 ∷ k ∷ []))))))) ++ (10 ∷ []) ≡ n ++ (s ++ (32 ∷ (h ++ (32 ∷ (p ++ (32 ∷ k ∷ 10 ∷ []))))))
-feed-in n s h p k =
-    append-assoc n (s ++ (32 ∷ (h ++ (32 ∷ (p ++ (32 ∷ k ∷ [])))))) (10 ∷ [])
-    ∙ ap (λ (r : List ℕ). n ++ r) (append-assoc s (32 ∷ (h ++ (32 ∷ (p ++ (32 ∷ k ∷ []))))) (10 ∷ []))
-    ∙ ap (λ (r : List ℕ). n ++ (s ++ (32 ∷ r))) (append-assoc h (32 ∷ (p ++ (32 ∷ k ∷ []))) (10 ∷ []))
-    ∙ ap (λ (r : List ℕ). n ++ (s ++ (32 ∷ (h ++ (32 ∷ r))))) (append-assoc p (32 ∷ k ∷ []) (10 ∷ []))
+feed-in : (n s h p : List ℕ) (k : ℕ) (u : List ℕ)
+    → (n ++ (s ++ (32 ∷ (h ++ (32 ∷ (p ++ (32 ∷ k ∷ 32 ∷ (u ++ [])))))))) ++ (10 ∷ []) ≡ n ++ (s ++ (32 ∷ (h ++ (32 ∷ (p ++ (32 ∷ k ∷ 32 ∷ (u ++ (10 ∷ []))))))))
+feed-in n s h p k u = simp (append-assoc, append-nil)
 
 pub ok-pieces : (cycles : ℕ) (d : Decoded)
-    → okPieces (natText cycles) (spaced (map softText (d .soft))) (bitsText (d .hard)) (payloadText (d .payload)) (bitText (d .check)) ≡ okText cycles d
+    → okPieces (natText cycles) (spaced (map softText (d .soft))) (bitsText (d .hard)) (payloadText (d .payload)) (bitText (d .check)) (natText (d .undecided)) ≡ okText cycles d
 unfolding okText lineText okFields spaced
 ok-pieces cycles d =
     sym
     (ap (λ (r : List ℕ). 111 ∷ 107 ∷ 32 ∷ ((natText cycles ++ r) ++ (10 ∷ [])))
-    (spaced-append (map softText (d .soft)) (bitsText (d .hard) ∷ payloadText (d .payload) ∷ (bitText (d .check) ∷ []) ∷ []))
+    (spaced-append (map softText (d .soft)) (bitsText (d .hard) ∷ payloadText (d .payload) ∷ (bitText (d .check) ∷ []) ∷ natText (d .undecided) ∷ []))
     ∙ ap (λ (r : List ℕ). 111 ∷ 107 ∷ 32 ∷ r)
-    (feed-in (natText cycles) (spaced (map softText (d .soft))) (bitsText (d .hard)) (payloadText (d .payload)) (bitText (d .check))))
+    (feed-in (natText cycles) (spaced (map softText (d .soft))) (bitsText (d .hard)) (payloadText (d .payload)) (bitText (d .check)) (natText (d .undecided))))
 
 pub no-pieces : (number : ℕ) → noPieces (natText number) ≡ noText number
 unfolding noText lineText spaced

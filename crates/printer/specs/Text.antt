@@ -40,8 +40,9 @@ unfoldable pub softText : Soft → List ℕ
 softText (finite z) = intText z
 softText certain = inf
 
+-- the digit of 0, 1 or 2; a larger number, which no decode has, as 1
 abbrev pub bitText : ℕ → ℕ
-bitText b = cond (eqb b 0) digit0 (digit0 + 1)
+bitText b = cond (eqb b 0) digit0 (cond (eqb b 2) (digit0 + 2) (digit0 + 1))
 
 unfoldable pub bitsText : List ℕ → List ℕ
 bitsText bits = map bitText bits
@@ -61,9 +62,10 @@ spaced (f ∷ fs) = (space ∷ f) ++ spaced fs
 unfoldable pub lineText : List ℕ → List (List ℕ) → List ℕ
 lineText first others = first ++ (spaced others ++ (feed ∷ []))
 
--- an accepted line: cycles, N soft values, hard word, payload, frozen check
+-- an accepted line: cycles, N soft values, hard word, payload, frozen check, number of undecided bits
 unfoldable pub okFields : ℕ → Decoded → List (List ℕ)
-okFields cycles d = natText cycles ∷ (map softText (d .soft) ++ (bitsText (d .hard) ∷ payloadText (d .payload) ∷ (bitText (d .check) ∷ []) ∷ []))
+okFields cycles d =
+    natText cycles ∷ (map softText (d .soft) ++ (bitsText (d .hard) ∷ payloadText (d .payload) ∷ (bitText (d .check) ∷ []) ∷ natText (d .undecided) ∷ []))
 
 unfoldable pub okText : ℕ → Decoded → List ℕ
 okText cycles d = lineText ok (okFields cycles d)
@@ -73,5 +75,5 @@ unfoldable pub noText : ℕ → List ℕ
 noText number = lineText no (natText number ∷ [])
 
 -- what a decode gives, from its parts
-abbrev pub decoded : List Soft → List ℕ → List ℕ → ℕ → Decoded
-decoded soft hard payload check = record { soft = soft; hard = hard; payload = payload; check = check }
+abbrev pub decoded : List Soft → List ℕ → List ℕ → ℕ → ℕ → Decoded
+decoded soft hard payload check undecided = record { soft = soft; hard = hard; payload = payload; check = check; undecided = undecided }

@@ -98,7 +98,13 @@ fn put_softs(soft: &[i32], out: &mut [u8], at: usize) -> usize
 fn bit_glyph(b: u8) -> u8
     ensures { λ r. ⌜ r ≡ bitText b ⌝ }
 {
-    if b == 0 { b'0' } else { b'1' }
+    if b == 0 {
+        b'0'
+    } else if b == 2 {
+        b'2'
+    } else {
+        b'1'
+    }
 }
 
 // Bits behind a space.
@@ -141,16 +147,19 @@ pub fn print_decoded(
     hard: &[u8],
     payload: &[u8],
     check: u8,
+    undecided: u16,
     out: &mut [u8],
 ) -> usize
-    ensures { λ r. ⌜ Printed (okText cycles (decoded (map softOf (now (soft .entry))) (now (hard .entry)) (now (payload .entry)) check)) (12 * length (now (soft .entry)) + length (now (hard .entry)) + length (now (payload .entry)) + 19) (now (out .entry)) (now (out .exit)) r ⌝ }
+    ensures { λ r. ⌜ Printed (okText cycles (decoded (map softOf (now (soft .entry))) (now (hard .entry)) (now (payload .entry)) check undecided)) (12 * length (now (soft .entry)) + length (now (hard .entry)) + length (now (payload .entry)) + 25) (now (out .entry)) (now (out .exit)) r ⌝ }
 {
     let a = put_head(b'o', b'k', cycles, out);
     let b = put_softs(soft, out, a);
     let c = put_bits(hard, out, b);
     let d = put_payload(payload, out, c);
     let g = bit_glyph(check);
-    put_three(b' ', g, b'\n', out, d)
+    let e = put_three(b' ', g, b' ', out, d);
+    let f = put_digits(undecided as u64, out, e);
+    put_byte(b'\n', out, f)
 }
 
 // The line of a refusal, from the buffer's start on; answers its length.

@@ -4,7 +4,7 @@ use mathlib.Core.List.{List}
 use Prim.Native.Nat.{ℕ, _+_, _*_, _^_}
 use lib.ListN.{length}
 use Rattle.model.specs.Lists.{over}
-use Rattle.model.specs.Refusals.{accepted, planNumber, planCounts, planCycles, checkNumber, checkCycles, decodeNumber, decodeCycles, decodeCheck}
+use Rattle.model.specs.Refusals.{accepted, planNumber, planCounts, planCycles, checkNumber, checkCycles, decodeNumber, decodeCycles, decodeCheck, decodeUndecided}
 use Rattle.model.specs.Distance.{distanceNumber, distanceFound}
 use Rattle.replay.specs.Program.{captureText, totalsNumber}
 use Rattle.decode.specs.Calls.{Lent, Given, callOf, Left}
@@ -21,9 +21,9 @@ PlanAnswer mask room r = r ≡ planNumber mask room + 256 * planCycles mask room
 unfoldable pub hostCounts : List ℕ → ℕ → List ℕ → List ℕ
 hostCounts mask room counts = accepted (planNumber mask room) (planCounts mask room) counts
 
--- a decode: number + 256 × cycles + 2 ^ 40 × frozen check; and what it leaves in its buffers
+-- a decode: number + 256 × cycles + 2 ^ 40 × frozen check + 2 ^ 41 × number of undecided bits; and what it leaves in its buffers
 pub record DecodeAnswer (g : Given) (after : Lent) (r : ℕ) : Type 0 where
-  pub answer-is : r ≡ decodeNumber (callOf g) + 256 * decodeCycles (callOf g) + 2 ^ 40 * decodeCheck (callOf g)
+  pub answer-is : r ≡ decodeNumber (callOf g) + 256 * decodeCycles (callOf g) + 2 ^ 40 * decodeCheck (callOf g) + 2 ^ 41 * decodeUndecided (callOf g)
   pub left : Left g after
 
 -- a mask for a wanted distance: number + 256 × (1 where a mask was written); room is the length of the mask buffer

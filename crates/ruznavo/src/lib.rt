@@ -80,7 +80,7 @@ pub extern "C" fn ruznavo_plan(mask: &[u8], plan: &mut [u8], counts: &mut [u32; 
     256 * p.cycles as u64
 }
 
-// A decode. The answer is number + 256 × cycles + 2 ^ 40 × frozen check.
+// A decode. The answer is number + 256 × cycles + 2 ^ 40 × frozen check + 2 ^ 41 × number of undecided bits.
 #[no_mangle]
 pub extern "C" fn ruznavo_decode(
     mask: &[u8],
@@ -99,7 +99,9 @@ pub extern "C" fn ruznavo_decode(
         r ⌝ }
 {
     let d = decode(mask, plan, sweeps, llrs, soft, hard, payload, work);
-    d.number as u64 + 256 * d.cycles as u64 + 1099511627776 * d.check as u64
+    let check = 1099511627776 * d.check as u64;
+    let undecided = 2199023255552 * d.undecided as u64;
+    d.number as u64 + 256 * d.cycles as u64 + check + undecided
 }
 
 // The mask of N and K by row weight. The answer is the number.

@@ -51,10 +51,13 @@ pub abs-no : (z : ℤ) → negative z ≡ false → z ≡ pos (natAbs z)
 abs-no (pos n) e = refl
 abs-no (negsuc n) e = absurd (subst T e tt)
 
--- the test `z == 2147483647`, which is of the bits
+-- the test of a word against a literal, as `z == 2147483647`, which is of the bits
+pub number-yes : (m : ℕ) → m < 2 ^ 31 → (z : ℤ) → SFits w32 z → ofZ w32 z ≡ m → z ≡ pos m
+number-yes m h (pos n) f e = ap pos e
+number-yes m h (negsuc n) f e = absurd (omega (arith, f .sfits, h))
+
 pub mark-yes : (z : ℤ) → SFits w32 z → ofZ w32 z ≡ mark → z ≡ pos mark
-mark-yes (pos n) f e = ap pos e
-mark-yes (negsuc n) f e = absurd (omega (arith, f .sfits))
+mark-yes = number-yes mark (omega arith)
 
 pub mark-no : (z : ℤ) → (ofZ w32 z ≡ mark → ⊥) → z ≡ pos mark → ⊥
 mark-no z h e = h (ap (ofZ w32) e)

@@ -1,84 +1,87 @@
--- `decisions::read_off` meets its contract: hard bits, their transform, its unfrozen and frozen bits. Assumes nothing.
-use mathlib.Core.Path.{ap, _∙_}
-use mathlib.Core.List.{List}
-use Prim.Native.Nat.{ℕ}
+-- `decisions::read_off` meets its contract: the hard word, the number of its ties, and what that decides. Assumes nothing.
 use native.Mathlib.Omega.{arith}
-use Rattle.model.specs.Lists.{bit, over}
-use Rattle.decisions.proofs.Reading.{hard-law, payload-law, check-law}
 use borrow.Author.Needs.{needs}
+use Rattle.decisions.specs.Bits.{decisionAt}
+use Rattle.decisions.proofs.Folds.{ties-few}
+use Rattle.decisions.proofs.Reading.{read-undecided, read-bits}
 use Rattle.decisions.proofs.read_off.Statement.{statement}
 use Rattle.decisions.proofs.read_off.Tie as tie
 
-decide-requires : tie.Need-decide-requires
-decide-requires c κs =
-    let start = c .before .before .before .before in
-    let a = start .args in
-    let can = start .pre in
-    ((can .values, can .softs, can .bits), can .sums)
+decide-signs-requires : tie.Need-decide-signs-requires
+decide-signs-requires c κs = c .before .before .before .before .pre .sums
 
-slice-aggregate-decoded-bits : tie.Need-slice-aggregate-decoded-bits
-slice-aggregate-decoded-bits c = search needs
-
-decoded-bits-requires : tie.Need-decoded-bits-requires
-decoded-bits-requires c κs =
-    let start = c .before .before .before .before .before .before .before .before .before in
-    let a = start .args in
-    let can = start .pre in
-    let len = c .before .before .before .before .decide .kept .1 .1 .0 in
-    record { length-allowed = can .length-allowed; from-room = omega (arith, can .bits, len); to-room = can .few }
-
-slice-aggregate-read-payload : tie.Need-slice-aggregate-read-payload
-slice-aggregate-read-payload c = search needs
-
-read-payload-requires : tie.Need-read-payload-requires
-read-payload-requires c κs =
-    let start = c .before .before .before .before .before .before .before .before .before .before .before .before .before in
-    let a = start .args in
-    let can = start .pre in
-    let len = c .before .before .before .decoded-bits .kept .1 .0 in
-    (omega (arith, can .positions, can .few, len), can .payload-room)
-
-slice-aggregate-frozen-check : tie.Need-slice-aggregate-frozen-check
-slice-aggregate-frozen-check c = search needs
-
-frozen-check-requires : tie.Need-frozen-check-requires
-frozen-check-requires c κs =
-    let start = c .before .before .before .before .before .before .before .before .before .before .before .before .before .before .before .before .before in
-    let a = start .args in
-    let can = start .pre in
-    let len = c .before .before .before .before .before .before .before .decoded-bits .kept .1 .0 in
-    omega (arith, can .positions, can .few, len)
-
-same-length : tie.Need-same-length
-same-length c = search needs
-
-same-length-2 : tie.Need-same-length-2
-same-length-2 c = search needs
+read-decided-requires : tie.Need-read-decided-requires
+read-decided-requires c κs =
+    let signs = c .before .before .before .before .before in
+    let can = signs .before .before .before .before .before .pre .room in
+    record {
+      length-allowed = can .length-allowed;
+      few = can .few;
+      positions = can .positions;
+      bits = omega (arith, can .bits, signs .decide-signs .kept .1 .1 .0);
+      payload-room = can .payload-room;
+    }
 
 returns : tie.Need-returns
 returns c =
-    let start = c .before .before .before .before .before .before .before .before .before .before .before .before .before .before .before .before .before .before in
+    let read = c .before .before in
+    let then = read .before .before .before in
+    let signs = then .before .before .before in
+    let start = signs .before .before .before .before .before in
     let a = start .args in
     let can = start .pre in
-    let dec = c .before .before .before .before .before .before .before .before .before .before .before .before .before .decide in
-    let bits = c .before .before .before .before .before .before .before .before .decoded-bits in
-    let pay = c .before .before .before .before .read-payload in
-    let payload-is = payload-law (a .mask .now) (a .llrs .now) (a .soft .now) (a .hard .now) (a .payload .now) (dec .last .1 .1 .0) _ (a .size) can (dec .ensures) (bits .last .1 .0) (bits .ensures) in
-    let check-is = check-law (a .mask .now) (a .llrs .now) (a .soft .now) (a .hard .now) (a .payload .now) (dec .last .1 .1 .0) _ (a .size) can (dec .ensures) (bits .last .1 .0) (bits .ensures) in
-    let hard-is = hard-law (a .mask .now) (a .llrs .now) (a .soft .now) (a .hard .now) (a .payload .now) (dec .last .1 .1 .0) _ (a .size) can (dec .ensures) (bits .last .1 .0) (bits .ensures) in
-    (c .frozen-check .ensures ∙ ap bit check-is, (hard-is, pay .ensures ∙ ap (λ (l : List ℕ). over l (a .payload .now)) payload-is))
+    read-bits (a .mask .now) (a .llrs .now) (a .soft .now) (a .hard .now) (a .payload .now) (a .size) (can .room .bits) (signs .decide-signs .ensures .0)
+    (then .if1 .taken) (signs .decide-signs .last .1 .1 .0) (signs .decide-signs .ensures .1)
+    (read .read-decided .ensures)
+
+decide-requires : tie.Need-decide-requires
+decide-requires c κs =
+    let signs = c .before .before .before .before in
+    let can = signs .before .before .before .before .before .pre .sums in
+    record {
+      few = can .few;
+      values = can .values;
+      softs = can .softs;
+      bits = omega (arith, can .bits, signs .decide-signs .kept .1 .1 .0);
+      sums = can .sums;
+    }
+
+leave-undecided-requires : tie.Need-leave-undecided-requires
+leave-undecided-requires c κs =
+    let can = c .before .before .before .before .before .before .before .before .before .before .before .before .before .pre in
+    omega (arith, can .count, can .room .payload-room)
+
+-- there are at most N ties
+cast-t22 : tie.Need-cast-t22
+cast-t22 c =
+    let signs = c .before .before .before .before .before .before .before .before .before .before .before in
+    let start = signs .before .before .before .before .before in
+    let a = start .args in
+    record { fits = omega (arith, signs .decide-signs .ensures .0, ties-few (a .size) (decisionAt (a .llrs .now) (a .soft .now)), start .pre .sums .few) }
+
+returns-2 : tie.Need-returns-2
+returns-2 c =
+    let left = c .before .before in
+    let decided = left .before .before .before .before in
+    let else = decided .before .before in
+    let signs = else .before .before .before in
+    let start = signs .before .before .before .before .before in
+    let a = start .args in
+    let can = start .pre in
+    read-undecided (a .mask .now) (a .llrs .now) (a .soft .now) (a .hard .now) (a .payload .now) (a .size) (can .room .bits) (signs .decide-signs .ensures .0)
+    (else .if1 .left) (signs .decide-signs .last .1 .1 .0) (decided .decide .last .1 .1 .0) (signs .decide-signs .ensures .1) (decided .decide .ensures)
+    (a .k) (can .count) (left .leave-undecided .last .0) (left .leave-undecided .ensures)
 
 pub read-off-spec : {M : Type 1} → statement M
 read-off-spec =
     tie.close
     (tie.spec
+    decide-signs-requires
+    read-decided-requires
+    (λ c. search needs) (λ c. search needs)
+    returns
     decide-requires
-    slice-aggregate-decoded-bits
-    decoded-bits-requires
-    slice-aggregate-read-payload
-    read-payload-requires
-    slice-aggregate-frozen-check
-    frozen-check-requires
-    same-length
-    same-length-2
-    returns)
+    leave-undecided-requires
+    cast-t22
+    (λ c. search needs) (λ c. search needs)
+    returns-2)

@@ -55,7 +55,7 @@ returns : tie.Need-returns
 returns c =
     let g = call (c .before .before .before .before .before .before .before .before) in
     let h = c .before .if1 .taken in
-    refused-outcome g h (number-input g (c .before .before .before .input-tests .ensures .number-is) h) (c .answer .ensures .0) (c .answer .ensures .1) (c .answer .ensures .2)
+    refused-outcome g h (number-input g (c .before .before .before .input-tests .ensures .number-is) h) (c .answer .ensures .0) (c .answer .ensures .1) (c .answer .ensures .2) (c .answer .ensures .3)
 
 add-words : tie.Need-add-words
 add-words c = let fit = words-fit (passed c) in record { fits = omega arith }
@@ -74,7 +74,7 @@ answer-requires-2 c κs = search needs
 
 returns-2 : tie.Need-returns-2
 returns-2 c =
-    refused-outcome (called (c .before .before .before .before)) (c .before .if2 .taken) (short-number (c .before .before)) (c .answer2 .ensures .0) (c .answer2 .ensures .1) (c .answer2 .ensures .2)
+    refused-outcome (called (c .before .before .before .before)) (c .before .if2 .taken) (short-number (c .before .before)) (c .answer2 .ensures .0) (c .answer2 .ensures .1) (c .answer2 .ensures .2) (c .answer2 .ensures .3)
 
 soft-values-requires : tie.Need-soft-values-requires
 soft-values-requires c κs = roomy (c .before .before)
@@ -88,7 +88,7 @@ read-off-requires : tie.Need-read-off-requires
 read-off-requires c κs =
     let tests = c .before .before .before .before .before .before .before .before .before .before .before in
     let run = c .before .before .before .before .before .before .before .before .soft-values in
-    readable (called-roomy tests) (no-number tests) (passed (tests .before .before .before)) (run .last .1 .1 .1 .1 .1 .1 .0) (run .ensures .0)
+    readable (called-roomy tests) (no-number tests) (passed (tests .before .before .before)) (run .last .1 .1 .1 .1 .1 .1 .0) (run .ensures .0) (tests .before .before .unfrozen-of .ensures)
 
 cast-cycles : tie.Need-cast-cycles
 cast-cycles c = let pass = passed (c .before .before .before .before .before .before .before .before .before .before .before .before .before .before .before .before .before .before .before) in record { fits = omega (arith, pass .few) }
@@ -125,7 +125,7 @@ returns-3 c =
     let work = run .last .1 .1 .1 .1 .1 .1 .1 .0 in
     let zeros = cleared (g .plan) (g .mask) (g .llrs) (g .sweeps) (length (g .mask)) t (g .buffers .soft) (g .buffers .work) (withLlrs (length (g .mask)) t (g .llrs) (g .buffers .work)) (roomy tests) refl work (run .ensures .1) (clear .last .0) (clear .ensures) in
     accepted-outcome g (no-number tests) (passed (tests .before .before .before)) (run .last .1 .1 .1 .1 .1 .1 .0) (run .ensures .0) (sym (tests .if2 .left) ∙ short-number (tests .before))
-    (c .answer3 .ensures .0) (c .answer3 .ensures .1) (c .answer3 .ensures .2 ∙ off .ensures .0) (off .ensures .1 .0) (off .ensures .1 .1) zeros
+    (c .answer3 .ensures .0) (c .answer3 .ensures .1) (c .answer3 .ensures .2) (c .answer3 .ensures .3) (off .ensures) zeros
 
 pub decode-spec : {M : Type 1} → statement M
 decode-spec =

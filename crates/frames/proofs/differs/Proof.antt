@@ -23,11 +23,11 @@ sign-is c =
 
 returns : tie.Need-returns
 unfolding differing
-returns c = rw (eq-eqb _ _ (c .if2 .taken ∙ sign-is (c .before)))
+returns c = let a = c .before .before .args in rw (eq-eqb (a .bit) (bit (negative (a .llr))) (c .if2 .taken ∙ sign-is (c .before)))
 
 returns-2 : tie.Need-returns-2
 unfolding differing
-returns-2 c = rw (ne-eqb _ _ (λ e. c .if2 .left (e ∙ sym (sign-is (c .before)))))
+returns-2 c = let a = c .before .before .args in rw (ne-eqb (a .bit) (bit (negative (a .llr))) (λ e. c .if2 .left (e ∙ sym (sign-is (c .before)))))
 
 pub differs-spec : {M : Type 1} → statement M
 differs-spec = tie.close (tie.spec returns returns-2)

@@ -1,5 +1,5 @@
 -- `kinds::candidate_at_ends` meets its contract: its tests are those that tell a mask of some kind by its ends. Assumes nothing.
-use mathlib.Core.Path.{_≡_, refl}
+use mathlib.Core.Path.{_≡_}
 use mathlib.Core.Bool.{true, cond}
 use mathlib.Core.Option.{some}
 use Prim.Native.Nat.{ℕ, _-_, _≤_, _<_}

@@ -1,6 +1,6 @@
 -- `masks::weight_tests` meets its contract: its tests are rows 1, 16 and 11, in this order. Assumes nothing.
 use mathlib.Core.Path.{ap, ap₂, _∙_}
-use mathlib.Core.Bool.{Bool, cond, not}
+use mathlib.Core.Bool.{cond, not}
 use Prim.Native.Nat.{ℕ}
 use lib.Dec.{eqb, leb}
 use borrow.Author.Needs.{needs}

@@ -5,7 +5,7 @@ use native.Mathlib.Omega.{arith}
 use lib.ListN.{length, take}
 use lib.Seq.{length-take-le}
 use Rattle.fields.specs.Grammar.{firstOf, feed}
-use Rattle.polar_line.proofs.Reading.{first-after, take-take}
+use Rattle.polar_line.proofs.Reading.{counts-to, first-after, take-take}
 use borrow.Author.Needs.{needs}
 use Rattle.polar_line.proofs.read_input.Statement.{statement}
 use Rattle.polar_line.proofs.read_input.Tie as tie
@@ -27,7 +27,7 @@ same-length : tie.Need-same-length Inv-loop μ-loop
 same-length c = search needs
 
 returns : tie.Need-returns Inv-loop μ-loop
-returns c = search needs
+returns c = counts-to _ _ (search needs)
 
 add-e : tie.Need-add-e Inv-loop μ-loop
 add-e c = search needs
@@ -45,7 +45,7 @@ same-length-2 : tie.Need-same-length-2 Inv-loop μ-loop
 same-length-2 c = search needs
 
 returns-2 : tie.Need-returns-2 Inv-loop μ-loop
-returns-2 c = search needs
+returns-2 c = search (counts-to, needs)
 
 loop-less : tie.Need-loop-less Inv-loop μ-loop
 loop-less c = search needs
@@ -67,7 +67,7 @@ same-length-3 : tie.Need-same-length-3 Inv-loop μ-loop
 same-length-3 c = search needs
 
 returns-3 : tie.Need-returns-3 Inv-loop μ-loop
-returns-3 c = search needs
+returns-3 c = search (counts-to, needs)
 
 pub read-input-spec : {M : Type 1} → statement M
 read-input-spec =

@@ -7,7 +7,10 @@ returns : tie.Need-returns
 returns c = rw (eq-eqb (c .before .args .b) 0 (c .if1 .taken))
 
 returns-2 : tie.Need-returns-2
-returns-2 c = rw (ne-eqb (c .before .args .b) 0 (c .if1 .left))
+returns-2 c = let b = c .before .before .args .b in rw (ne-eqb b 0 (c .before .if1 .left), eq-eqb b 2 (c .if2 .taken))
+
+returns-3 : tie.Need-returns-3
+returns-3 c = let b = c .before .before .args .b in rw (ne-eqb b 0 (c .before .if1 .left), ne-eqb b 2 (c .if2 .left))
 
 pub bit-glyph-spec : {M : Type 1} → statement M
-bit-glyph-spec = tie.close (tie.spec returns returns-2)
+bit-glyph-spec = tie.close (tie.spec returns returns-2 returns-3)

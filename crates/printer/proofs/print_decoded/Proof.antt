@@ -2,7 +2,7 @@
 use mathlib.Core.Path.{ap, _∙_}
 use mathlib.Core.List.{map}
 use lib.ListN.{length}
-use Prim.Native.Nat.{_+_, _*_}
+use Prim.Native.Nat.{ℕ, _+_, _*_}
 use Rattle.model.specs.Scan.{Decoded}
 use Rattle.printer.specs.Text.{natText, softText, bitsText, payloadText, spaced, decoded}
 use Rattle.printer.proofs.Puts.{put-then, put-as}
@@ -32,12 +32,20 @@ bit-glyph-requires c κs = search needs
 put-three-requires : tie.Need-put-three-requires
 put-three-requires c κs = search needs
 
+put-digits-requires : tie.Need-put-digits-requires
+put-digits-requires c κs = search needs
+
+put-byte-requires : tie.Need-put-byte-requires
+put-byte-requires c κs = search needs
+
 same-length : tie.Need-same-length
 same-length c = search needs
 
 returns : tie.Need-returns
 returns c =
-    let c5 = c .before .before in
+    let c7 = c .before .before in
+    let c6 = c7 .before .before .before .before in
+    let c5 = c6 .before .before .before .before in
     let g = c5 .before .before in
     let c4 = g .before .before .before in
     let c3 = c4 .before .before .before .before in
@@ -45,11 +53,11 @@ returns c =
     let c1 = c2 .before .before .before .before in
     let s = c1 .before .before .before .before .before in
     let a = s .args in
-    let d : Decoded = decoded (map softOf (a .soft .now)) (a .hard .now) (a .payload .now) (a .check) in
-    let from3 = put-then (c3 .put-bits .ensures) (put-then (c4 .put-payload .ensures) (c5 .put-three .ensures)) in
-    let check = ap (okPieces (natText (a .cycles)) (spaced (map softText (d .soft))) (bitsText (a .hard .now)) (payloadText (a .payload .now))) (g .bit-glyph .ensures) in
-    printed (12 * length (a .soft .now) + length (a .hard .now) + length (a .payload .now) + 19)
-    (ok-size (a .cycles) (length (a .soft .now)) d (s .fits .cycles .fits) (c2 .put-softs .ensures .1))
+    let d : Decoded = decoded (map softOf (a .soft .now)) (a .hard .now) (a .payload .now) (a .check) (a .undecided) in
+    let from3 = put-then (c3 .put-bits .ensures) (put-then (c4 .put-payload .ensures) (put-then (c5 .put-three .ensures) (put-then (c6 .put-digits .ensures) (c7 .put-byte .ensures)))) in
+    let check = ap (λ (b : ℕ). okPieces (natText (a .cycles)) (spaced (map softText (d .soft))) (bitsText (a .hard .now)) (payloadText (a .payload .now)) b (natText (a .undecided))) (g .bit-glyph .ensures) in
+    printed (12 * length (a .soft .now) + length (a .hard .now) + length (a .payload .now) + 25)
+    (ok-size (a .cycles) (length (a .soft .now)) d (s .fits .cycles .fits) (s .fits .undecided .fits) (c2 .put-softs .ensures .1))
     (put-as (check ∙ ok-pieces (a .cycles) d) (put-then (c1 .put-head .ensures) (put-then (c2 .put-softs .ensures .0) from3)))
 
 pub print-decoded-spec : {M : Type 1} → statement M
@@ -62,5 +70,7 @@ print-decoded-spec =
     put-payload-requires
     bit-glyph-requires
     put-three-requires
+    put-digits-requires
+    put-byte-requires
     same-length
     returns)
