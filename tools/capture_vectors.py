@@ -22,7 +22,7 @@ import sys
 import tempfile
 import time
 
-from model import ALLOWED, LARGEST_LLR, MOST_SWEEPS, cuts, cycles, decoded, drawn_mask, some_of_each
+from model import ALLOWED, LARGEST_LLR, MOST_SWEEPS, cuts, cycles, decoded, drawn_mask, some_of_each, transform
 
 random.seed(5)
 SIGNATURE = bytes.fromhex('44524E31')
@@ -73,9 +73,9 @@ def capture_number(data):
 
 @functools.lru_cache(None)
 def counted(mask, frame):
-    """What a frame adds to its drain's totals: frames, checks of 1, hard bits that differ from the LLR's sign, cycles."""
+    """What a frame adds to its drain's totals: frames, checks of 1, hard bits that differ from the LLR's sign, as undecided ones do, cycles."""
     _, sweeps, llrs = fields(frame)
-    _, hard, _, check = decoded(mask, sweeps, llrs)
+    _, hard, _, check, _ = decoded(mask, sweeps, llrs)
     return 1, check, sum(bit != int(llr < 0) for bit, llr in zip(hard, llrs)), sweeps * cycles(list(mask))
 
 
@@ -156,11 +156,9 @@ def totals(file):
             ('a drain between others', MASK_4, [frame_4(9, 1), frame_4(2, 1), frame_4(9, 2), frame_4(2, 2)], '2 2 1 1 18\n9 2 1 1 18\n'),
             ('LLR 0 with hard bit 1', (1, 0), [frame(0, 1, [0, -5])], '0 1 1 1 2\n'),
             ('LLR 0 with hard bit 0', (1, 0), [frame(0, 1, [0, 5])], '0 1 1 0 2\n'),
-            ('LLRs 0', (0, 0), [frame(1, 3, [0, 0])], '1 1 1 0 0\n'),
-            ('LLR and soft value add up to 0', (1, 0), [frame(0, 1, [5, -5])], '0 1 1 1 2\n'),
             ('K 0, hard bits differ', (1, 1), [frame(63, 8, [-7, -4])], '63 1 1 2 0\n'),
             ('K N, hard bits are the signs', (0, 0), [frame(63, 8, [7, -4])], '63 1 1 0 0\n'),
-            ('LLRs at both ends', (1, 0), [frame(1, 1, [LARGEST_LLR, -LARGEST_LLR])], '1 1 1 1 2\n'),
+            ('LLRs at both ends', (1, 1), [frame(1, 1, [LARGEST_LLR, -LARGEST_LLR])], '1 1 1 1 0\n'),
             ('sweeps 1 to 8', MASK_8, [frame(s, s, LLRS_8) for s in range(8, 0, -1)], ''.join(f'{s} 1 1 1 {10 * s}\n' for s in range(1, 9))),
             ('every drain', (1, 0), [frame(d, 1, [1, 2]) for d in range(64)], ''.join(f'{d} 1 1 0 2\n' for d in range(64))),
             ('300 frames of a drain', (1, 0), [frame(40, 8, [1, -2])] * 300, '40 300 300 300 4800\n')]:
@@ -169,13 +167,31 @@ def totals(file):
     file.group('totals')
 
 
+def undecided(file):
+    """Frames with undecided bits, whose totals are plain from the rules: such a frame's check is 0, and each of these bits differs."""
+    tied, decided = frame(9, 1, [5, -5]), frame(9, 1, [5, -4])      # for a mask of two positions, the first frozen
+    for name, mask, frames, expected in [
+            ('LLRs 0', (0, 0), [frame(1, 3, [0, 0])], '1 1 0 2 0\n'),
+            ('LLRs 0, one certain value', (0, 1), [frame(1, 1, [0, 0])], '1 1 0 1 2\n'),
+            ('LLRs 0, K 0', (1, 1), [frame(1, 1, [0, 0])], '1 1 1 0 0\n'),
+            ('LLRs 0, N 1024', [0] * 1024, [frame(2, 8, [0] * 1024)] * 3, '2 3 0 3072 0\n'),
+            ('one LLR 0', (0, 0), [frame(1, 1, [0, -5]), frame(1, 1, [5, 0])], '1 2 0 2 0\n'),
+            ('LLR and soft value add up to 0', (1, 0), [tied], '9 1 0 2 2\n'),
+            ('both ends add up to 0', (1, 0), [frame(1, 1, [LARGEST_LLR, -LARGEST_LLR])], '1 1 0 2 2\n'),
+            ('two of four bits', (1, 0, 0, 0), [frame(4, 1, [3, -1, 1, 5])], '4 1 0 2 2\n'),
+            ('undecided and decided frames', (1, 0), [tied, decided, tied, decided, decided], '9 5 3 7 10\n'),
+            ('undecided in the first sweep', MASK_4, [frame(1, s, [5, 3, -3, 4]) for s in (1, 2)], '1 2 1 3 18\n')]:
+        file.case(name, capture(mask, frames), expected)
+    file.group('undecided bits')
+
+
 def full(file):
     """The longest captures of some N. No capture of an allowed N has 65536 bytes."""
     assert not any((LONGEST - TRAILER - n) % (4 + 2 * n) == 0 for n in ALLOWED)
     frames_1024 = []
     for k in range(31):
         front = [random.choice([0, 1, -1, 9, -9, LARGEST_LLR, -LARGEST_LLR]) for _ in range(24)]
-        frames_1024.append(frame(k * 7 % 10, k % 8 + 1, front + [random.randint(-20, 20) for _ in range(8)] * 125))
+        frames_1024.append(frame(k * 7 % 10, k % 8 + 1, front + [random.randint(20 if k % 2 else -20, 40) for _ in range(8)] * 125))
     long_1024 = capture(drawn_mask(1024, 0), frames_1024)
     assert len(long_1024) + 2052 > LONGEST
     file.case('31 frames of N 1024', long_1024)
@@ -309,22 +325,35 @@ def drawn_llrs(n):
     return [llr() * (-1 if random.random() < negative else 1) for _ in range(n)]
 
 
-def drawn_capture(n, style, count):
-    drains = random.sample(range(MOST_DRAIN + 1), max(1, count // 2))
-    return capture(drawn_mask(n, style), [frame(random.choice(drains), random.randint(1, MOST_SWEEPS), drawn_llrs(n)) for _ in range(count)])
+def word_llrs(mask):
+    """The signs of a drawn word, one in a hundred of them wrong: few of these frames have undecided bits."""
+    word = transform([0 if frozen else random.getrandbits(1) for frozen in mask])
+    return [random.randint(1, 200) * (-1 if bit ^ (random.random() < .01) else 1) for bit in word]
+
+
+def drawn_capture(n, style, count, words=0):
+    """So many frames, and so many more with the signs of words."""
+    drains, mask = random.sample(range(MOST_DRAIN + 1), max(1, count // 2)), drawn_mask(n, style)
+    draws = [lambda: drawn_llrs(n)] * count + [lambda: word_llrs(mask)] * words
+    return capture(mask, [frame(random.choice(drains), random.randint(1, MOST_SWEEPS), llrs()) for llrs in draws])
 
 
 def drawn(file):
-    kinds = set()
+    kinds, ends = set(), {}
     for n in ALLOWED:
         most = min(12, 2048 // n)
         for k in range(10 if n < 64 else 3):
-            data = drawn_capture(n, k, random.randint(min(2, most), most))
+            data = drawn_capture(n, k, random.randint(min(2, most), most), 1)
             file.case(f'N {n} drawn {k}', data)
             assert not answer(data).startswith('no')
-            kinds.update(cuts(list(layout(data)[0])))
+            mask, frames = layout(data)
+            kinds.update(cuts(list(mask)))
+            ends.setdefault(n, set()).update(decoded(mask, *fields(f)[1:])[3:] for f in frames)
         file.group(f'N {n} drawn')
     assert len(kinds) == 8, kinds
+    for found in ends.values():
+        assert (1, 0) in found and any(undecided for _, undecided in found), ends
+    assert (0, 0) in set().union(*ends.values())
 
 
 def changed(data):
@@ -400,7 +429,7 @@ def run(program, captures):
 
 def main():
     file = File()
-    for part in (totals, lengths, trailers, masks, frame_faults, sets_of_faults, full, changed_captures, drawn):
+    for part in (totals, undecided, lengths, trailers, masks, frame_faults, sets_of_faults, full, changed_captures, drawn):
         part(file)
     if sys.argv[1:2] == ['--run']:
         run(sys.argv[2], file.captures)

@@ -15,7 +15,7 @@ import random
 import re
 import sys
 
-from model import ALLOWED, CERTAIN, LARGEST_LLR, MOST_SWEEPS, cuts, cycles, decoded, digits_of, drawn_mask, some_of_each
+from model import ALLOWED, CERTAIN, LARGEST_LLR, MOST_SWEEPS, cuts, cycles, decoded, digits_of, drawn_mask, some_of_each, transform
 
 random.seed(13)
 LONGEST = 16384
@@ -46,8 +46,9 @@ def answer(data):
     number, mask, sweeps, llrs = read(data)
     if number:
         return b'no %d\n' % number
-    soft, hard, payload, check = decoded(mask, sweeps, llrs)
-    fields = ['ok', sweeps * cycles(mask), *('inf' if x is CERTAIN else x for x in soft), digits_of(hard), digits_of(payload) or '-', check]
+    soft, hard, payload, check, undecided = decoded(mask, sweeps, llrs)
+    values = ['inf' if x is CERTAIN else x for x in soft]
+    fields = ['ok', sweeps * cycles(mask), *values, digits_of(hard), digits_of(payload) or '-', check, undecided]
     return ' '.join(map(str, fields)).encode() + b'\n'
 
 
@@ -98,13 +99,13 @@ class File:
 
 def frames(file):
     for name, line, expected in [
-            ('frame 1', b'11101000 1 3 -2 5 1 4 -6 2 -1\n', 'ok 10 3 -4 2 -7 3 -2 4 -5 01010101 0011 1\n'),
-            ('frame 2', b'11101000 2 3 -2 5 1 4 -6 2 -1\n', 'ok 20 3 -4 2 -7 3 -2 4 -5 01010101 0011 1\n'),
+            ('frame 1', b'11101000 1 3 -2 5 1 4 -6 2 -1\n', 'ok 10 3 -4 2 -7 3 -2 4 -5 01010101 0011 1 0\n'),
+            ('frame 2', b'11101000 2 3 -2 5 1 4 -6 2 -1\n', 'ok 20 3 -4 2 -7 3 -2 4 -5 01010101 0011 1 0\n'),
             ('frame 3', b'1011 1 5 -3 2 1\n', 'ok 6 -1 2 inf inf '),
             ('frame 4', b'1011 2 5 -3 2 1\n', 'ok 12 -3 5 inf inf '),
             ('frame 5', b'10 1 7 -4\n', 'ok 2 -4 7 '),
             ('frame 6', b'1100 1 1 2 3 4\n', 'ok 2 3 4 1 2 '),
-            ('frame 7', b'11 1 7 -4\n', 'ok 0 inf inf 00 - 1\n'),
+            ('frame 7', b'11 1 7 -4\n', 'ok 0 inf inf 00 - 1 0\n'),
             ('frame 8', b'00 1 7 -4\n', 'ok 0 0 0 01 ')]:
         file.case(name, line, expected)
     file.group('frames')
@@ -112,18 +113,16 @@ def frames(file):
 
 def answers(file):
     for name, line, expected in [
-            ('K 0', b'11 3 -7 -4\n', 'ok 0 inf inf 00 - 1\n'),
-            ('K 0, N 4', b'1111 8 -1 -2 -3 -4\n', 'ok 0 inf inf inf inf 0000 - 1\n'),
-            ('K 0, N 8', b'11111111 1 0 0 0 0 0 0 0 0\n', 'ok 0 inf inf inf inf inf inf inf inf 00000000 - 1\n'),
+            ('K 0', b'11 3 -7 -4\n', 'ok 0 inf inf 00 - 1 0\n'),
+            ('K 0, N 4', b'1111 8 -1 -2 -3 -4\n', 'ok 0 inf inf inf inf 0000 - 1 0\n'),
+            ('K 0, N 8', b'11111111 1 0 0 0 0 0 0 0 0\n', 'ok 0 inf inf inf inf inf inf inf inf 00000000 - 1 0\n'),
             ('K N, N 4', b'0000 1 1 -2 3 -4\n', 'ok 0 0 0 0 0 0101 '),
-            ('K N, N 8', b'00000000 2 -1 -1 -1 -1 -1 -1 -1 -1\n', 'ok 0 0 0 0 0 0 0 0 0 11111111 00000001 1\n'),
+            ('K N, N 8', b'00000000 2 -1 -1 -1 -1 -1 -1 -1 -1\n', 'ok 0 0 0 0 0 0 0 0 0 11111111 00000001 1 0\n'),
             ('certain and finite values', b'1101 1 1 -2 3 -4\n', None),
             ('certain and finite values, 3 sweeps', b'11011111 3 1 -2 3 -4 5 -6 7 -8\n', None),
             ('second position frozen', b'01 1 -3 5\n', None),
             ('second position frozen, two negative values', b'01 1 -3 -5\n', None),
-            ('all LLRs 0', b'1000 1 0 0 0 0\n', 'ok 2 0 0 0 0 0000 000 1\n'),
-            ('LLR and soft value add up to 0', b'10 1 5 -5\n', 'ok 2 -5 5 00 0 1\n'),
-            ('REP of 8', b'11111110 1 1 2 3 4 5 6 7 8\n', 'ok 2 35 34 33 32 31 30 29 28 00000000 0 1\n'),
+            ('REP of 8', b'11111110 1 1 2 3 4 5 6 7 8\n', 'ok 2 35 34 33 32 31 30 29 28 00000000 0 1 0\n'),
             ('SPC of 8', b'10000000 1 1 -2 3 -4 5 -6 7 -8\n', 'ok 2 2 -1 1 -1 1 -1 1 -1 '),
             ('type I of 8', b'11111100 1 1 2 3 4 5 6 7 8\n', 'ok 2 15 18 13 16 11 14 9 12 '),
             ('type III of 8', b'11000000 1 1 -2 3 -4 5 -6 7 -8\n', 'ok 2 3 -4 1 -2 1 -2 1 -2 '),
@@ -132,9 +131,32 @@ def answers(file):
             ('type II of 8, a class of sum 0', b'11111000 3 1 -2 3 -4 -1 -6 7 -8\n', 'ok 12 7 -6 7 -8 9 -2 3 -4 '),
             ('type IV of 8, boxes that add up to 0', b'11100000 3 9 1 2 -3 9 6 5 8\n', 'ok 12 0 6 5 8 0 1 2 -3 '),
             ('largest sum', b'11111110 1' + b' 32767' * 8 + b'\n', 'ok 2' + ' 229369' * 8),
-            ('least sum', b'11111110 1' + b' -32767' * 8 + b'\n', 'ok 2' + ' -229369' * 8 + ' 11111111 1 1\n')]:
+            ('least sum', b'11111110 1' + b' -32767' * 8 + b'\n', 'ok 2' + ' -229369' * 8 + ' 11111111 1 1 0\n')]:
         file.case(name, line, expected)
     file.group('answers')
+
+
+def undecided(file):
+    for name, line, expected in [
+            ('all LLRs 0', b'1000 1 0 0 0 0\n', 'ok 2 0 0 0 0 2222 222 0 4\n'),
+            ('all LLRs 0, 8 sweeps', b'11101000 8 0 0 0 0 0 0 0 0\n', 'ok 80 0 0 0 0 0 0 0 0 22222222 2222 0 8\n'),
+            ('all LLRs 0, K N', b'00 1 0 0\n', 'ok 0 0 0 22 22 0 2\n'),
+            ('all LLRs 0, one certain value', b'01 1 0 0\n', 'ok 2 0 inf 20 2 0 1\n'),
+            ('first LLR 0', b'00 1 0 -5\n', 'ok 0 0 0 21 22 0 1\n'),
+            ('last LLR 0', b'0000 1 1 -1 1 0\n', 'ok 0 0 0 0 0 0102 2222 0 1\n'),
+            ('LLR 0 and a soft value', b'10 1 0 -5\n', 'ok 2 -5 0 11 1 1 0\n'),
+            ('LLR and soft value add up to 0', b'10 1 5 -5\n', 'ok 2 -5 5 22 2 0 2\n'),
+            ('LLR and soft value add up to 0, both ends', b'10 1 -32767 32767\n', 'ok 2 32767 -32767 22 2 0 2\n'),
+            ('LLR and soft value add up to 1', b'10 1 5 -4\n', 'ok 2 -4 5 00 0 1 0\n'),
+            ('REP of 4, sum 0', b'1110 1 1 -2 3 -2\n', 'ok 2 -1 2 -3 2 2222 2 0 4\n'),
+            ('SPC of 4, two of the least size', b'1000 1 3 -1 1 5\n', 'ok 2 -1 1 -1 -1 0220 222 0 2\n'),
+            ('type III of 4, one class of sum 0', b'1100 1 4 0 -4 3\n', 'ok 2 -4 3 4 0 2020 22 0 2\n'),
+            ('in the first sweep, 1 sweep', b'1011 1 5 3 -3 4\n', 'ok 6 3 -3 inf inf 0200 2 0 1\n'),
+            ('in the first sweep, 2 sweeps', b'1011 2 5 3 -3 4\n', 'ok 12 3 5 inf inf 0000 0 1 0\n'),
+            ('in the second sweep, 1 sweep', b'1010 1 -1 5 3 -5\n', 'ok 10 3 1 -5 3 0011 11 1 0\n'),
+            ('in the second sweep, 2 sweeps', b'1010 2 -1 5 3 -5\n', 'ok 20 1 -1 -3 5 2022 22 0 3\n')]:
+        file.case(name, line, expected)
+    file.group('undecided bits')
 
 
 def line_ends(file):
@@ -225,8 +247,8 @@ def numbers(file):
             ('100 leading zeros', b'10 1 7 -' + b'0' * 100 + b'4\n', ok),
             ('100 leading zeros in the sweeps', b'10 ' + b'0' * 100 + b'1 7 -4\n', ok),
             ('100 zeros', b'10 1 ' + b'0' * 100 + b' 0\n', 'ok 2 0 0 '),
-            ('zero with a minus', b'10 1 -0 0\n', 'ok 2 0 0 00 0 1\n'),
-            ('many zeros with a minus', b'10 1 -0000 -' + b'0' * 60 + b'\n', 'ok 2 0 0 00 0 1\n'),
+            ('zero with a minus', b'10 1 -0 0\n', 'ok 2 0 0 22 2 0 2\n'),
+            ('many zeros with a minus', b'10 1 -0000 -' + b'0' * 60 + b'\n', 'ok 2 0 0 22 2 0 2\n'),
             ('-00007', b'10 1 -00007 4\n', 'ok 2 4 -7 '),
             ('LLR 32767', b'10 1 32767 1\n', 'ok 2 1 32767 '),
             ('LLR -32767', b'10 1 -32767 1\n', 'ok 2 1 -32767 '),
@@ -350,10 +372,15 @@ def large_lines(file):
     for n in (256, 512, 1024):
         m = n - 1
         for name, mask, sweeps, llrs, expected in [
-                ('K 0', '1' * n, 8, [-7] * n, 'ok 0' + ' inf' * n + ' ' + '0' * n + ' - 1\n'),
-                ('K N', '0' * n, 8, [-7] * n, 'ok 0' + ' 0' * n + ' ' + '1' * n + ' ' + '0' * m + '1 1\n'),
-                ('REP', '1' * m + '0', 1, [-32767] * n, 'ok 2' + f' {-32767 * m}' * n + ' ' + '1' * n + ' 1 1\n'),
-                ('REP, 8 sweeps', '1' * m + '0', 8, [32767] * n, 'ok 16' + f' {32767 * m}' * n + ' ' + '0' * n + ' 0 1\n'),
+                ('K 0', '1' * n, 8, [-7] * n, 'ok 0' + ' inf' * n + ' ' + '0' * n + ' - 1 0\n'),
+                ('K 0, LLRs 0', '1' * n, 1, [0] * n, 'ok 0' + ' inf' * n + ' ' + '0' * n + ' - 1 0\n'),
+                ('K N', '0' * n, 8, [-7] * n, 'ok 0' + ' 0' * n + ' ' + '1' * n + ' ' + '0' * m + '1 1 0\n'),
+                ('K N, LLRs 0', '0' * n, 8, [0] * n, 'ok 0' + ' 0' * n + ' ' + '2' * n + ' ' + '2' * n + f' 0 {n}\n'),
+                ('K N, last LLR 0', '0' * n, 1, [-7] * m + [0], 'ok 0' + ' 0' * n + ' ' + '1' * m + '2 ' + '2' * n + ' 0 1\n'),
+                ('K N, every third LLR 0', '0' * n, 1, [int(k % 3 > 0) for k in range(n)], 'ok 0' + ' 0' * n + ' 200200'),
+                ('REP', '1' * m + '0', 1, [-32767] * n, 'ok 2' + f' {-32767 * m}' * n + ' ' + '1' * n + ' 1 1 0\n'),
+                ('REP, 8 sweeps', '1' * m + '0', 8, [32767] * n, 'ok 16' + f' {32767 * m}' * n + ' ' + '0' * n + ' 0 1 0\n'),
+                ('REP, sum 0', '1' * m + '0', 8, [-3, 3] * (n // 2), 'ok 16' + ' 3 -3' * (n // 2) + ' ' + '2' * n + f' 2 0 {n}\n'),
                 ('SPC', '1' + '0' * m, 1, [5] * n, 'ok 2' + ' 5' * n),
                 ('SPC, one negative', '1' + '0' * m, 3, [5] * m + [-1], 'ok 6' + ' -1' * m + ' 5 '),
                 ('type I', '1' * (n - 2) + '00', 2, [2, -3] * (n // 2), 'ok 4' + f' {2 * (n // 2 - 1)} {-3 * (n // 2 - 1)}' * (n // 2)),
@@ -406,24 +433,37 @@ def faulty(file):
 
 
 def drawn_line(n, style):
-    """Sizes are small in large lines, which keeps the file small; the signs are even, or those of the zero word with noise."""
+    """Even signs and sizes from 0, with which most large lines have undecided bits, or the signs of a drawn word, a few of them wrong.
+    Sizes are small in large lines, which keeps the file small."""
     size = random.choice([1, 3, 9, 200, LARGEST_LLR] if n <= 128 else [1, 3, 9])
-    negative = random.choice([.5, .1])
+    least, wrong = [(0, .5), (1, .01), (0, .5), (1, .1)][style % 4]
     mask, sweeps = drawn_mask(n, style), random.randint(1, MOST_SWEEPS)
-    return line_of(mask, sweeps, [random.randint(0, size) * (-1 if random.random() < negative else 1) for _ in range(n)])
+    word = transform([0 if frozen else random.getrandbits(1) for frozen in mask])
+    return line_of(mask, sweeps, [random.randint(least, size) * (-1 if bit ^ (random.random() < wrong) else 1) for bit in word])
+
+
+def end_of(line):
+    """What the answer to an accepted line ends with."""
+    check, undecided = map(int, answer(line).split()[-2:])
+    return 'undecided' if undecided else f'check {check}'
 
 
 def drawn(file):
+    """Of four lines one has undecided bits, one has none and check 1, one has none and check 0, at the N where these are not too rare or
+    too long, and one is as it comes."""
     kinds, ends = {}, set()
     for n in ALLOWED:
         for k in range(max(4, 16 - n // 16)):
+            wanted = ['undecided', 'check 1', 'check 0' if 16 <= n <= 128 else None, None][k % 4]
             line = drawn_line(n, k)
+            while wanted and end_of(line) != wanted:
+                line = drawn_line(n, k)
             file.case(f'N {n} drawn {k}', line, 'ok ')
             kinds.setdefault(n, set()).update(cuts(read(line)[1]))
-            ends.add(answer(line)[-2:])
+            ends.add(end_of(line))
         file.group(f'N {n} drawn')
     assert all(len(kinds[n]) == 8 for n in ALLOWED if n >= 64), kinds
-    assert ends == {b'0\n', b'1\n'}
+    assert ends == {'undecided', 'check 0', 'check 1'}
 
 
 def changed(line):
@@ -460,7 +500,7 @@ def changed_lines(file):
 
 def main():
     file = File()
-    for part in (frames, answers, line_ends, characters, numbers, masks, faulty, long_lines, large_lines, changed_lines, drawn):
+    for part in (frames, answers, undecided, line_ends, characters, numbers, masks, faulty, long_lines, large_lines, changed_lines, drawn):
         part(file)
     if len(sys.argv) > 1:
         sys.stdout.buffer.write(file.inputs[int(sys.argv[1]) - 1])

@@ -3,6 +3,7 @@ the hard word and what follows from it, the planner's cycles, and masks drawn in
 import random
 
 CERTAIN = 'certain'      # the mark, which is larger than every number
+UNDECIDED = 2            # in a hard word, and in the payload of one that has any
 ALLOWED = [2 ** n for n in range(1, 11)]
 MOST_SWEEPS = 8
 LARGEST_LLR = 32767
@@ -56,14 +57,23 @@ def transform(u):
     return [a ^ b for a, b in zip(first, second)] + second
 
 
+def hard_bit(total):
+    """The bit of LLR plus soft value."""
+    if total is CERTAIN or total > 0:
+        return 0
+    return 1 if total < 0 else UNDECIDED
+
+
 def decoded(mask, sweeps, llrs):
-    """The soft values, the hard word, its payload and its frozen check."""
+    """The soft values, the hard word, its payload, its frozen check, and how many of its bits are undecided."""
     soft = scan(mask, llrs, sweeps)
-    hard = [0 if x is CERTAIN else int(llr + x < 0) for llr, x in zip(llrs, soft)]
+    hard = [hard_bit(plus(llr, x)) for llr, x in zip(llrs, soft)]
+    if UNDECIDED in hard:
+        return soft, hard, [UNDECIDED for frozen in mask if not frozen], 0, hard.count(UNDECIDED)
     u = transform(hard)
     payload = [bit for bit, frozen in zip(u, mask) if not frozen]
     check = int(not any(bit for bit, frozen in zip(u, mask) if frozen))
-    return soft, hard, payload, check
+    return soft, hard, payload, check, 0
 
 
 def digits_of(bits):

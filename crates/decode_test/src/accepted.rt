@@ -148,21 +148,31 @@ pub fn try_case(c: Case, given: Bytes) -> Tried {
     }
 }
 
-pub fn decode_case(c: Case) -> bool {
+// How a case came out: whether it is right, and whether its decode has undecided bits.
+pub struct Found {
+    pub right: bool,
+    pub undecided: bool,
+}
+
+pub fn decode_case(c: Case) -> Found {
     let tried = try_case(c, [0; 4112]);
-    tried.right
+    let out = tried.out;
+    Found {
+        right: tried.right,
+        undecided: out.undecided != 0,
+    }
 }
 
 // ---- encoded words
 
-// Whether a word decodes to itself and to its payload of k bits with check 1.
+// Whether a word decodes to itself and to its payload of k bits with check 1 and no undecided bit.
 fn word_right(c: Case, word: Bytes, sent: Bytes, k: usize) -> bool {
     let tried = try_case(c, word);
     let out = tried.out;
     let hard = out.hard;
     let payload = out.payload;
     both(
-        both(tried.right, out.check == 1),
+        both(tried.right, both(out.check == 1, out.undecided == 0)),
         both(
             same_front(hard, word, length_of(c.stage)),
             same_front(payload, sent, k),

@@ -89,6 +89,7 @@ pub fn decode_front(
             hard,
             payload,
             check: answer.check,
+            undecided: answer.undecided as usize,
         },
     }
 }

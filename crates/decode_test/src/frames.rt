@@ -110,14 +110,14 @@ fn frame_at(i: usize) -> Frame {
     }
 }
 
-// The first two frames decode to the word 01010101 and its payload 0011.
+// The first two frames decode to the word 01010101 and its payload 0011, with no undecided bit.
 fn line_right(out: Outputs) -> bool {
     let hard = out.hard;
     let payload = out.payload;
     let word = extended([0, 1, 0, 1, 0, 1, 0, 1]);
     let sent = extended([0, 0, 1, 1, 0, 0, 0, 0]);
     both(
-        out.check == 1,
+        both(out.check == 1, out.undecided == 0),
         both(same_front(hard, word, 8), same_front(payload, sent, 4)),
     )
 }

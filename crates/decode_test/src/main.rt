@@ -1,21 +1,22 @@
 // Compares the decoder, the planner and the check of a plan with a SCAN of its own, walked to the last leaf, over drawn cases,
 // tries the refusals of these calls, and decodes encoded words.
-// Each line of the output has a group of cases, how many came out right, and how many there are. A case that does not come out
-// right is printed with the numbers that determine it: `right(group, stage, index)` runs it alone, and a case of the numbers after
-// these, handed to the function that `right` calls for the group, does so too.
+// Each line of the output has a group of cases, how many came out right, and how many there are; for decodes of drawn LLRs also how many
+// have undecided bits. A case that does not come out right is printed with the numbers that determine it: `found(group, stage, index)` runs
+// it alone, and a case of the numbers after these, handed to the function that is called for the group, does so too.
 mod accepted;
 mod calls;
 mod frames;
 mod refusals;
 
+use accepted::Found;
 use reference::cases::Case;
 use test_tools::numbers::case_seed;
 use test_tools::numbers::length_of;
 use test_tools::numbers::one_if;
+use test_tools::report::begin_report;
 use test_tools::report::end_line;
 use test_tools::report::print_number;
 use test_tools::report::print_values;
-use test_tools::report::report;
 ghost use Prim.Native.Nat.{_≤_};
 
 // The groups.
@@ -124,15 +125,33 @@ fn refusal_right(group: usize, stage: usize, i: usize) -> bool {
     }
 }
 
-// Whether a case comes out right.
-fn right(group: usize, stage: usize, i: usize) -> bool {
+// Whether a case that is not a decode of drawn LLRs comes out right.
+fn other_right(group: usize, stage: usize, i: usize) -> bool {
     match group {
         0 => frames::frame_case(i),
-        1 | 2 | 3 => accepted::decode_case(case_of(group, stage, i)),
         4 => accepted::sign_case(case_of(group, stage, i)),
         5 => accepted::plan_case(case_of(group, stage, i)),
         10 => refusals::length_case(i % 2056, case_seed(group, stage, i)),
         _ => refusal_right(group, stage, i),
+    }
+}
+
+// Whether a group has decodes of drawn LLRs.
+fn has_drawn_llrs(group: usize) -> bool {
+    match group {
+        1 | 2 | 3 => true,
+        _ => false,
+    }
+}
+
+// How a case comes out.
+fn found(group: usize, stage: usize, i: usize) -> Found {
+    if has_drawn_llrs(group) {
+        return accepted::decode_case(case_of(group, stage, i));
+    }
+    Found {
+        right: other_right(group, stage, i),
+        undecided: false,
     }
 }
 
@@ -163,51 +182,67 @@ fn print_mismatch(group: usize, stage: usize, i: usize) {
     end_line();
 }
 
-// Whether a case comes out right; prints it if not.
-fn shown(group: usize, stage: usize, i: usize) -> bool {
-    if right(group, stage, i) {
-        return true;
+// How a case comes out; prints it if it is not right.
+fn shown(group: usize, stage: usize, i: usize) -> Found {
+    let case = found(group, stage, i);
+    if !case.right {
+        print_mismatch(group, stage, i);
     }
-    print_mismatch(group, stage, i);
-    false
+    case
 }
 
-// How many of the first `count` cases come out right.
-fn count_right(group: usize, stage: usize, count: usize) -> usize
+// How many cases came out right, and how many have undecided bits.
+struct Counts {
+    right: usize,
+    undecided: usize,
+}
+
+// The counts of the first `count` cases.
+fn count_cases(group: usize, stage: usize, count: usize) -> Counts
     requires { ⌜ count ≤ 65536 ⌝ }
-    ensures { λ r. ⌜ r ≤ 65536 ⌝ }
+    ensures { λ r. ⌜ (r .right ≤ 65536) × (r .undecided ≤ 65536) ⌝ }
 {
-    let mut sum = 0;
+    let mut right = 0;
+    let mut undecided = 0;
     let mut i = 0;
     while i < count {
-        sum += one_if(shown(group, stage, i));
+        let case = shown(group, stage, i);
+        right += one_if(case.right);
+        undecided += one_if(case.undecided);
         i += 1;
     }
-    sum
+    Counts { right, undecided }
 }
 
-fn report_line(group: usize, right: usize, all: usize) {
-    report(
+fn report_line(group: usize, counts: Counts, all: usize) {
+    begin_report(
         b"frames: |every mask to N 8: | drawn cases |kinds at every size: |encoded words: |changed plans: |decode, one or two faults: |decode, sets of faults: |check, sets of faults: |planner, sets of faults: |lengths of the mask: ",
         group,
-        right,
+        counts.right,
         all,
     );
+    if has_drawn_llrs(group) {
+        print_number(b", with undecided bits ", counts.undecided);
+    }
+    end_line();
 }
 
 // A group with the same number of cases for each N to 2 ^ stages.
 fn report_group(group: usize, stages: usize, count: usize)
     requires { ⌜ (stages ≤ 10) × (count ≤ 65536) ⌝ }
 {
-    let mut sum = 0;
+    let mut right = 0;
+    let mut undecided = 0;
     let mut all = 0;
     let mut stage = 1;
     while stage <= stages {
-        sum += count_right(group, stage, count);
+        let c = count_cases(group, stage, count);
+        right += c.right;
+        undecided += c.undecided;
         all += count;
         stage += 1;
     }
-    report_line(group, sum, all);
+    report_line(group, Counts { right, undecided }, all);
 }
 
 // Fewer cases for the largest N.
@@ -228,7 +263,7 @@ fn report_drawn() {
     while stage <= 10 {
         let count = drawn_count(stage);
         print_number(b"N ", length_of(stage));
-        report_line(DRAWN, count_right(DRAWN, stage, count), count);
+        report_line(DRAWN, count_cases(DRAWN, stage, count), count);
         stage += 1;
     }
 }

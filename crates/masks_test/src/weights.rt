@@ -6,7 +6,7 @@ use test_tools::numbers::one_if;
 use test_tools::report::end_line;
 use test_tools::report::print_values;
 use test_tools::tally::Count;
-ghost use Prim.Native.Nat.{_≤_, _<_};
+ghost use Prim.Native.Nat.{_<_};
 
 // ---- against the matrix
 

@@ -1,4 +1,4 @@
-// What a decode writes, and the frozen check that it answers.
+// What a decode writes, and the frozen check and the number of undecided bits that it answers.
 use test_tools::buffers::Bytes;
 use test_tools::buffers::draw_bytes;
 use test_tools::buffers::draw_words;
@@ -11,9 +11,10 @@ pub struct Outputs {
     pub hard: Bytes,
     pub payload: Bytes,
     pub check: u8,
+    pub undecided: usize,
 }
 
-// Buffers with n drawn elements each, and check 0.
+// Buffers with n drawn elements each, check 0 and no undecided bit.
 pub fn draw_outputs(n: usize, seed: u32) -> Outputs {
     let mut soft = [0i32; 2056];
     draw_words(&mut soft, n, seed);
@@ -22,6 +23,7 @@ pub fn draw_outputs(n: usize, seed: u32) -> Outputs {
         hard: draw_bytes(n, seed),
         payload: draw_bytes(n, seed),
         check: 0,
+        undecided: 0,
     }
 }
 
@@ -35,6 +37,6 @@ pub fn same_outputs(a: Outputs, b: Outputs) -> bool {
     let bits = both(same_bytes(a_hard, b_hard), same_bytes(a_payload, b_payload));
     both(
         both(bits, same_words(&a_soft, &b_soft, 2056)),
-        a.check == b.check,
+        both(a.check == b.check, a.undecided == b.undecided),
     )
 }

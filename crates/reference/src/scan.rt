@@ -5,12 +5,11 @@
 use crate::outputs::Outputs;
 use crate::values::CERTAIN;
 use crate::values::box_of;
-use crate::values::negative;
+use crate::values::hard_bit;
 use crate::values::soft_word;
 use crate::values::sum;
 use crate::words::read_word;
 use test_tools::buffers::Bytes;
-use test_tools::numbers::bit_if;
 use test_tools::numbers::least;
 use test_tools::numbers::length_of;
 use test_tools::numbers::minus;
@@ -158,7 +157,7 @@ fn read_root(table: &[u64; 22528], stage: usize, before: Outputs) -> Outputs
         let message = at(table, MESSAGES + stage, i);
         let total = sum(at(table, stage, i), message);
         soft[i] = soft_word(message);
-        hard[i] = bit_if(negative(total));
+        hard[i] = hard_bit(total);
         i += 1;
     }
     let payload = before.payload;
@@ -167,10 +166,11 @@ fn read_root(table: &[u64; 22528], stage: usize, before: Outputs) -> Outputs
         hard,
         payload,
         check: before.check,
+        undecided: before.undecided,
     }
 }
 
-// What a decode is to write to the front of the outputs, and its frozen check.
+// What a decode is to write to the front of the outputs, its frozen check and the number of undecided bits.
 pub fn decode(
     mask: Bytes,
     values: [u64; 1024],

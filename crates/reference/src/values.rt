@@ -1,11 +1,15 @@
 // Values of the reference: whole numbers of either sign as two's complement in a u64, so that no sum leaves its type,
 // and the mark "certain".
+use test_tools::numbers::bit_if;
 
 // The mark, above every sum of LLRs.
 pub const CERTAIN: u64 = 1099511627776;
 
 // The least bits of a negative number.
 const NEGATIVE: u64 = 9223372036854775808;
+
+// The byte of an undecided bit.
+pub const UNDECIDED: u8 = 2;
 
 pub fn negative(a: u64) -> bool {
     NEGATIVE <= a
@@ -41,6 +45,14 @@ pub fn sum(a: u64, b: u64) -> u64 {
         return CERTAIN;
     }
     std::num::wrapping_add_u64(a, b)
+}
+
+// The bit of LLR plus soft value, by the sign. The mark's sign is positive.
+pub fn hard_bit(total: u64) -> u8 {
+    if total == 0 {
+        return UNDECIDED;
+    }
+    bit_if(negative(total))
 }
 
 // The 16-bit number of an LLR, its size modulo 2 ^ 15.

@@ -1,5 +1,6 @@
 // Words and payloads by the matrix, whose entry at row i and column j is 1 exactly if the ones of j are among those of i.
 use crate::outputs::Outputs;
+use crate::values::UNDECIDED;
 use test_tools::buffers::Bytes;
 use test_tools::buffers::same_front;
 use test_tools::numbers::bit_if;
@@ -66,21 +67,40 @@ fn gather(mask: Bytes, bits: Bytes, n: usize, over: Bytes) -> Bytes
     payload
 }
 
-// The outputs with the payload and the frozen check that the first n hard bits give. All frozen bits are zero exactly if the payload,
-// spread again, gives all bits.
+// How many of the first n bits are undecided.
+fn undecided_of(hard: Bytes, n: usize) -> usize
+    requires { ⌜ n ≤ 1024 ⌝ }
+{
+    let mut count = 0;
+    let mut i = 0;
+    while i < n {
+        count += one_if(hard[i] == UNDECIDED);
+        i += 1;
+    }
+    count
+}
+
+// The outputs with the payload and the frozen check that the first n hard bits give, and how many of these are undecided. If any is, then
+// every bit counts as undecided, and the check is 0. Otherwise all frozen bits are zero exactly if the payload, spread again, gives all bits.
 pub fn read_word(mask: Bytes, n: usize, out: Outputs) -> Outputs
     requires { ⌜ n ≤ 1024 ⌝ }
 {
     let soft = out.soft;
     let hard = out.hard;
     let over = out.payload;
-    let bits = product(hard, n, hard);
+    let undecided = undecided_of(hard, n);
+    let bits = if undecided == 0 {
+        product(hard, n, hard)
+    } else {
+        [UNDECIDED; 4112]
+    };
     let payload = gather(mask, bits, n, over);
     let clear = same_front(bits, spread(mask, payload, n), n);
     Outputs {
         soft,
         hard,
         payload,
-        check: bit_if(clear),
+        check: bit_if(both(undecided == 0, clear)),
+        undecided,
     }
 }

@@ -51,7 +51,7 @@ fn read_llrs(frame: &[u8], n: usize) -> [i16; 1024] {
     llrs
 }
 
-// How many of n hard bits differ from the sign of the frame's LLR.
+// How many of n hard bits differ from the sign of the frame's LLR, as every undecided one does.
 fn differing(frame: &[u8], hard: &[u8], n: usize) -> u64 {
     let end = least(n, 1024);
     let mut count = 0;

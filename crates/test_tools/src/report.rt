@@ -63,9 +63,14 @@ fn name_at(names: &[u8], k: usize) -> usize {
     at
 }
 
-// The line of the group with name k.
-pub fn report(names: &[u8], k: usize, right: usize, all: usize) {
+// The line of the group with name k, without its end.
+pub fn begin_report(names: &[u8], k: usize, right: usize, all: usize) {
     print_named(names, name_at(names, k), right);
     print_number(b" of ", all);
+}
+
+// The line of the group with name k.
+pub fn report(names: &[u8], k: usize, right: usize, all: usize) {
+    begin_report(names, k, right, all);
     end_line();
 }

@@ -25,8 +25,8 @@ length-of-requires c κs = search needs
 print-number-requires : tie.Need-print-number-requires Inv-loop μ-loop
 print-number-requires c κs = search needs
 
-count-right-requires : tie.Need-count-right-requires Inv-loop μ-loop
-count-right-requires c κs = search needs
+count-cases-requires : tie.Need-count-cases-requires Inv-loop μ-loop
+count-cases-requires c κs = search needs
 
 report-line-requires : tie.Need-report-line-requires Inv-loop μ-loop
 report-line-requires c κs = search needs
@@ -54,7 +54,7 @@ report-drawn-spec =
     slice-aggregate-print-number
     length-of-requires
     print-number-requires
-    count-right-requires
+    count-cases-requires
     report-line-requires
     add-stage
     loop-less

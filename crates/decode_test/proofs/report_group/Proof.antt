@@ -5,19 +5,23 @@ use Rattle.decode_test.proofs.report_group.Statement.{statement}
 use Rattle.decode_test.proofs.report_group.Tie as tie
 
 abbrev Inv-loop : tie.InvT-loop
-Inv-loop group stages count sum₀ all₀ stage₀ sum all stage = (1 ≤ stage) × (stage ≤ stages + 1) × (sum ≤ 65536 * stage) × (all ≤ 65536 * stage)
+Inv-loop group stages count right₀ undecided₀ all₀ stage₀ right undecided all stage =
+    (1 ≤ stage) × (stage ≤ stages + 1) × (right ≤ 65536 * stage) × (undecided ≤ 65536 * stage) × (all ≤ 65536 * stage)
 
 abbrev μ-loop : tie.MeasureT-loop
-μ-loop group stages count sum₀ all₀ stage₀ sum all stage = stages + 1 - stage
+μ-loop group stages count right₀ undecided₀ all₀ stage₀ right undecided all stage = stages + 1 - stage
 
 loop-holds : tie.Need-loop-holds Inv-loop μ-loop
 loop-holds c = search needs
 
-count-right-requires : tie.Need-count-right-requires Inv-loop μ-loop
-count-right-requires c κs = search needs
+count-cases-requires : tie.Need-count-cases-requires Inv-loop μ-loop
+count-cases-requires c κs = search needs
 
-add-sum : tie.Need-add-sum Inv-loop μ-loop
-add-sum c = search needs
+add-right : tie.Need-add-right Inv-loop μ-loop
+add-right c = search needs
+
+add-undecided : tie.Need-add-undecided Inv-loop μ-loop
+add-undecided c = search needs
 
 add-all : tie.Need-add-all Inv-loop μ-loop
 add-all c = search needs
@@ -44,8 +48,9 @@ report-group-spec =
     Inv-loop
     μ-loop
     loop-holds
-    count-right-requires
-    add-sum
+    count-cases-requires
+    add-right
+    add-undecided
     add-all
     add-stage
     loop-less

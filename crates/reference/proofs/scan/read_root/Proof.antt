@@ -37,11 +37,8 @@ mul-soft c = search needs
 array-set-from-soft : tie.Need-array-set-from-soft Inv-loop μ-loop
 array-set-from-soft c = search needs
 
-negative-requires : tie.Need-negative-requires Inv-loop μ-loop
-negative-requires c κs = search needs
-
-bit-if-requires : tie.Need-bit-if-requires Inv-loop μ-loop
-bit-if-requires c κs = search needs
+hard-bit-requires : tie.Need-hard-bit-requires Inv-loop μ-loop
+hard-bit-requires c κs = search needs
 
 array-write-hard : tie.Need-array-write-hard Inv-loop μ-loop
 array-write-hard c = search needs
@@ -73,8 +70,7 @@ read-root-spec =
     soft-word-requires
     mul-soft
     array-set-from-soft
-    negative-requires
-    bit-if-requires
+    hard-bit-requires
     array-write-hard
     add-i
     loop-less

@@ -1,26 +1,26 @@
--- `decode_test::count_right` is safe and ends. The loop's invariant: no more cases came out right than were tried. Assumes nothing.
+-- `reference::words::undecided_of` is safe and ends. The loop's invariant: no more bits are counted than were passed. Assumes nothing.
 use Prim.Native.Nat.{_-_, _≤_}
 use borrow.Author.Needs.{needs}
-use Rattle.decode_test.proofs.count_right.Statement.{statement}
-use Rattle.decode_test.proofs.count_right.Tie as tie
+use Rattle.reference.proofs.words.undecided_of.Statement.{statement}
+use Rattle.reference.proofs.words.undecided_of.Tie as tie
 
 abbrev Inv-loop : tie.InvT-loop
-Inv-loop group stage count sum₀ i₀ sum i = (i ≤ count) × (sum ≤ i)
+Inv-loop n hard count₀ i₀ count i = (i ≤ n) × (count ≤ i)
 
 abbrev μ-loop : tie.MeasureT-loop
-μ-loop group stage count sum₀ i₀ sum i = count - i
+μ-loop n hard count₀ i₀ count i = n - i
 
 loop-holds : tie.Need-loop-holds Inv-loop μ-loop
 loop-holds c = search needs
 
-shown-requires : tie.Need-shown-requires Inv-loop μ-loop
-shown-requires c κs = search needs
+array-read-one-if : tie.Need-array-read-one-if Inv-loop μ-loop
+array-read-one-if c = search needs
 
 one-if-requires : tie.Need-one-if-requires Inv-loop μ-loop
 one-if-requires c κs = search needs
 
-add-sum : tie.Need-add-sum Inv-loop μ-loop
-add-sum c = search needs
+add-count : tie.Need-add-count Inv-loop μ-loop
+add-count c = search needs
 
 add-i : tie.Need-add-i Inv-loop μ-loop
 add-i c = search needs
@@ -34,16 +34,16 @@ loop-again c = search needs
 returns : tie.Need-returns Inv-loop μ-loop
 returns c = search needs
 
-pub count-right-spec : {M : Type 1} → statement M
-count-right-spec =
+pub undecided-of-spec : {M : Type 1} → statement M
+undecided-of-spec =
     tie.close
     (tie.spec
     Inv-loop
     μ-loop
     loop-holds
-    shown-requires
+    array-read-one-if
     one-if-requires
-    add-sum
+    add-count
     add-i
     loop-less
     loop-again
