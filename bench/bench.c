@@ -48,6 +48,16 @@ typedef struct {
     plan_choice plan;
 } test_case;
 
+// The channel of a case's frames, and the scale of their LLRs, by which the front end's noise variance is divided.
+typedef struct {
+    double ebn0_db;
+    float scale;
+} channel;
+
+// Some of the noisy frames have an undecided bit, and none of the clear ones. Both are compared, and the clear ones
+// timed: a word with an undecided bit is less work, since it is not transformed and has no payload to be read off.
+static const channel noisy = {2, 1}, clear = {6, 16};
+
 // What the calls read.
 static uint8_t mask[MAX_N], plan[2 * MAX_N], marks[MAX_N], payloads[FRAMES][MAX_N], encoded[FRAMES][MAX_N];
 static float samples[FRAMES][MAX_N], variance;
@@ -94,17 +104,18 @@ static uint8_t mark_at(const test_case *c, size_t i) {
     return i % 8 == 0 ? RUZNAVO_PUNCTURED : RUZNAVO_SENT;
 }
 
-// The same frames for each case of a code: random payloads at an Eb/N0 of 2 dB.
-static void prepare(const test_case *c) {
+// The same frames for each case of a code: random payloads.
+static void prepare(const test_case *c, channel way) {
     struct random r = random_case(1, 0);
+    float noise = (float)noise_variance(c->n, c->k, way.ebn0_db);
     make_mask(mask, c->n, c->k);
     make_plan(c);
     for (size_t i = 0; i < c->n; i++) marks[i] = mark_at(c, i);
-    variance = (float)noise_variance(c->n, c->k, 2);
+    variance = noise / way.scale;
     for (int f = 0; f < FRAMES; f++) {
         for (size_t i = 0; i < c->k; i++) payloads[f][i] = random_bits(&r) >> 63;
         if (plain_encode(mask, c->n, payloads[f], c->k, encoded[f], c->n)) fail(c, "no word");
-        transmit(&r, encoded[f], c->n, variance, samples[f]);
+        transmit(&r, encoded[f], c->n, noise, samples[f]);
         if (plain_samples(samples[f], c->n, marks, c->n, variance, llrs[f], c->n)) fail(c, "no LLRs");
     }
 }
@@ -135,9 +146,11 @@ static void call(const test_case *c, int which, int f) {
     }
 }
 
-// All libraries must answer 0 and write the same, on buffers that held the same before.
-static void compare(const test_case *c) {
-    for (int f = 0; f < FRAMES; f++)
+// All libraries must answer 0 and write the same, on buffers that held the same before. How many frames a decoder left
+// a bit of undecided.
+static int compare(const test_case *c) {
+    int undecided = 0;
+    for (int f = 0; f < FRAMES; f++) {
         for (int which = 0; which < LIBRARIES; which++) {
             if (!has_routine(c, which)) continue;
             memset(&written[which], 85, sizeof written[which]);
@@ -146,6 +159,18 @@ static void compare(const test_case *c) {
             if (written[which].answer & 255) fail(c, "turned down");
             if (memcmp(&written[which], &written[PROVED], sizeof written[which])) fail(c, "the libraries differ");
         }
+        undecided += ruznavo_undecided(written[PROVED].answer) > 0;
+    }
+    return undecided;
+}
+
+// Compares on both kinds of frames; the clear ones stay.
+static void compare_all(const test_case *c) {
+    int decodes = c->what == DECODE || c->what == CHAIN;
+    prepare(c, noisy);
+    if (compare(c) == 0 && decodes) fail(c, "no noisy frame is undecided");
+    prepare(c, clear);
+    if (compare(c) > 0) fail(c, "a clear frame is undecided");
 }
 
 // For each library the nanoseconds of a call, from the fastest of many passes over all frames.
@@ -185,8 +210,7 @@ static void print_numbers(const test_case *c, const double *values) {
 // The case's line of a table, after its name; the times of the three libraries.
 static void run_case(const test_case *c, double *mean) {
     double counts[LIBRARIES] = {0};
-    prepare(c);
-    compare(c);
+    compare_all(c);
     if (counting) {
         for (int which = 0; which < LIBRARIES; which++)
             if (has_routine(c, which)) count_here(c, which);
@@ -293,7 +317,9 @@ static void replay_table(void) {
          "N                sweeps   frames    replay   decodes   replay/decodes");
     for (int i = 0; i < 4; i++) {
         test_case c = {DECODE, i < 2 ? 1024 : 2, i < 2 ? 512 : 1, i % 2 ? 4 : 1, PLANNERS};
-        prepare(&c);
+        prepare(&c, noisy);
+        compare_replay(mask, c.n, (unsigned)c.sweeps, llrs[0], MAX_N, FRAMES);
+        prepare(&c, clear);
         replay_times t = time_replay(mask, c.n, (unsigned)c.sweeps, llrs[0], MAX_N, FRAMES);
         printf("%-16zu %6zu %8zu %9.1f %9.1f %16.2f\n", c.n, c.sweeps, t.frames, t.replay, t.decodes,
                t.replay / t.decodes);

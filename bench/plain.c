@@ -347,7 +347,21 @@ static void sweep_all(const uint8_t *mask, size_t n, int t, const uint8_t *plan,
     for (size_t s = 0; s < sweeps; s++) visit(&d, 1, lists, work, 0, n);
 }
 
-// Payload from the hard word; the frozen check.
+// Soft values and hard bits from the root's message, 2 where the sum is 0; how many are 2.
+static uint32_t decide(const int32_t *restrict message, const int16_t *restrict llrs, int32_t *restrict soft,
+                       uint8_t *restrict hard, size_t n) {
+    uint32_t undecided = 0;
+    for (size_t i = 0; i < n; i++) {
+        int32_t sum = SLIP == SOFT_ALONE ? message[i] : plus(message[i], llrs[i]);
+        uint32_t one = sum < 0, tie = SLIP != TIE_ZERO && sum == 0;
+        soft[i] = message[i];
+        hard[i] = (uint8_t)(one + 2 * tie);
+        undecided += SLIP == ONES_COUNTED ? one : tie;
+    }
+    return undecided;
+}
+
+// Payload from a hard word with no 2; the frozen check.
 static int read_off(const uint8_t *mask, size_t n, const uint8_t *hard, uint8_t *payload) {
     uint8_t u[1024], wrong = 0;
     memcpy(u, hard, n);
@@ -371,15 +385,13 @@ uint64_t plain_decode(const uint8_t *mask, size_t n, const uint8_t *plan, size_t
     uint64_t number = test_plan(mask, n, plan, plan_length, &cycles);
     if (number) return number;
     if (has_lowest(llrs, n)) return 7;
-    if (soft_length < n || hard_length < n || payload_length < n - count_ones(mask, n)) return 11;
-    size_t words = n * ((size_t)t + 3);
+    size_t words = n * ((size_t)t + 3), unfrozen = n - count_ones(mask, n);
+    if (soft_length < n || hard_length < n || payload_length < unfrozen) return 11;
     if (work_length < words) return 12;
     sweep_all(mask, n, t, plan, llrs, sweeps, work);
-    for (size_t i = 0; i < n; i++) {
-        soft[i] = work[i];
-        hard[i] = (SLIP == SOFT_ALONE ? work[i] : plus(work[i], llrs[i])) < 0;
-    }
-    uint64_t check = (uint64_t)read_off(mask, n, hard, payload);
+    uint64_t undecided = decide(work, llrs, soft, hard, n), check = 0;
+    if (undecided && SLIP != READ_ANYWAY) memset(payload, 2, unfrozen);
+    else check = (uint64_t)read_off(mask, n, hard, payload);
     memset(work, 0, words * sizeof *work);
-    return 256 * (uint64_t)cycles * sweeps + (check << 40);
+    return 256 * (uint64_t)cycles * sweeps + (check << 40) + (undecided << 41);
 }

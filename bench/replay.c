@@ -42,7 +42,7 @@ static uint64_t decode(const replay_case *c, size_t f) {
 
 static uint64_t replay(void) { return ruznavo_replay(capture.bytes, capture.length, text, RUZNAVO_MAX_REPLAY); }
 
-// The totals of each drain.
+// The totals of each drain; an undecided bit, 2, differs from every LLR's sign.
 static void by_decodes(const replay_case *c, totals *all) {
     for (size_t f = 0; f < c->frames; f++) {
         uint64_t answer = decode(c, f);
@@ -84,20 +84,28 @@ static void make_capture(replay_case *c) {
 
 static double least(double a, double b) { return a < b ? a : b; }
 
+static replay_case current;
+
+void compare_replay(const uint8_t *mask, size_t n, unsigned sweeps, const int16_t *llrs, size_t stride,
+                    size_t different) {
+    current =
+        (replay_case){.mask = mask, .n = n, .stride = stride, .different = different, .sweeps = sweeps, .llrs = llrs};
+    make_capture(&current);
+}
+
 replay_times time_replay(const uint8_t *mask, size_t n, unsigned sweeps, const int16_t *llrs, size_t stride,
                          size_t different) {
-    static replay_case c;
-    c = (replay_case){.mask = mask, .n = n, .stride = stride, .different = different, .sweeps = sweeps, .llrs = llrs};
-    make_capture(&c);
-    replay_times t = {c.frames, 1e18, 1e18};
+    compare_replay(mask, n, sweeps, llrs, stride, different);
+    size_t frames = current.frames;
+    replay_times t = {frames, 1e18, 1e18};
     double end = now() + 1e9;
     for (int round = 0; round < 20 || now() < end; round++) {
         double start = now();
         replay();
         double middle = now();
-        for (size_t f = 0; f < c.frames; f++) decode(&c, f);
-        t.replay = least(t.replay, (middle - start) / (double)c.frames);
-        t.decodes = least(t.decodes, (now() - middle) / (double)c.frames);
+        for (size_t f = 0; f < frames; f++) decode(&current, f);
+        t.replay = least(t.replay, (middle - start) / (double)frames);
+        t.decodes = least(t.decodes, (now() - middle) / (double)frames);
     }
     return t;
 }

@@ -11,8 +11,10 @@ typedef struct {
     double replay, decodes;
 } replay_times;
 
-// The LLRs of some different frames, each `stride` after the one before; they are taken again from the first on. Exits
-// if replay and decodes have other totals.
+// The LLRs of some different frames, each `stride` after the one before; they are taken again from the first on. Both
+// exit if replay and decodes have other totals.
+void compare_replay(const uint8_t *mask, size_t n, unsigned sweeps, const int16_t *llrs, size_t stride,
+                    size_t different);
 replay_times time_replay(const uint8_t *mask, size_t n, unsigned sweeps, const int16_t *llrs, size_t stride,
                          size_t different);
 

@@ -320,12 +320,17 @@ static int above_one(const uint8_t *bytes, size_t n) {
     return all > 1;
 }
 
+// The sum of the two 64-bit numbers of a vector.
+INLINE size_t sum_of(vector a) {
+    return (size_t)_mm_cvtsi128_si64(a) + (size_t)_mm_cvtsi128_si64(_mm_srli_si128(a, 8));
+}
+
 static size_t count_ones(const uint8_t *bytes, size_t n) {
     vector sums = _mm_setzero_si128();
     size_t i = 0;
     for (; i + 16 <= n; i += 16)
         sums = _mm_add_epi64(sums, _mm_sad_epu8(_mm_loadu_si128((const vector *)(bytes + i)), _mm_setzero_si128()));
-    size_t ones = (size_t)_mm_cvtsi128_si64(sums) + (size_t)_mm_cvtsi128_si64(_mm_srli_si128(sums, 8));
+    size_t ones = sum_of(sums);
     for (; i < n; i++) ones += bytes[i];
     return ones;
 }
@@ -355,17 +360,33 @@ static void transform(uint8_t *bits, size_t n) {
             }
 }
 
-// Soft values and hard bits from the root's message and list.
-static void decide(const int32_t *restrict message, const int32_t *restrict list, int32_t *restrict soft,
-                   uint8_t *restrict hard, size_t n) {
-    memcpy(soft, message, n * sizeof *soft);
-    for (size_t i = 0; i < n; i++) {
-        uint32_t total = (uint32_t)message[i] + (uint32_t)list[i];
-        hard[i] = (uint8_t)(total >> 31 & (message[i] != CERTAIN));
-    }
+// Eight sums, of root's message and list, in 16 bits: what is too large for these keeps its sign.
+INLINE vector eight_sums(const int32_t *message, const int32_t *list) {
+    return _mm_packs_epi32(plus(load(message), load(list)), plus(load(message + 4), load(list + 4)));
 }
 
-// Payload from the hard word; the frozen check.
+// Soft values and hard bits from the root's message and list, 2 where the sum is 0; how many are 2.
+static size_t decide(const int32_t *message, const int32_t *list, int32_t *soft, uint8_t *hard, size_t n) {
+    vector zero = _mm_setzero_si128(), counts = zero;
+    size_t i = 0;
+    memcpy(soft, message, n * sizeof *soft);
+    for (; i + 16 <= n; i += 16) {
+        vector sums = _mm_packs_epi16(eight_sums(message + i, list + i), eight_sums(message + i + 8, list + i + 8));
+        vector ones = _mm_and_si128(_mm_cmplt_epi8(sums, zero), _mm_set1_epi8(1));
+        vector twos = _mm_and_si128(_mm_cmpeq_epi8(sums, zero), _mm_set1_epi8(2));
+        _mm_storeu_si128((vector *)(hard + i), _mm_or_si128(ones, twos));
+        counts = _mm_add_epi64(counts, _mm_sad_epu8(twos, zero));
+    }
+    size_t undecided = sum_of(counts) / 2;
+    for (; i < n; i++) {
+        int32_t sum = small_plus(message[i], list[i]);
+        hard[i] = sum == 0 ? 2 : sum < 0;
+        undecided += sum == 0;
+    }
+    return undecided;
+}
+
+// Payload from a hard word with no 2; the frozen check.
 static int read_off(const uint8_t *mask, size_t n, size_t unfrozen, const uint8_t *hard, uint8_t *payload) {
     uint8_t u[1024] = {0}, found[1024 + 1], wrong = 0;
     memcpy(u, hard, n);
@@ -417,8 +438,9 @@ uint64_t sse2_decode(const uint8_t *mask, size_t n, const uint8_t *plan, size_t 
     if (soft_length < n || hard_length < n || payload_length < unfrozen) return 11;
     if (work_length < words) return 12;
     sweep_all(&b, t, llrs, sweeps, work);
-    decide(work, work + n * (t + 1), soft, hard, n);
-    uint64_t check = (uint64_t)read_off(mask, n, unfrozen, hard, payload);
+    uint64_t undecided = decide(work, work + n * (t + 1), soft, hard, n), check = 0;
+    if (undecided) memset(payload, 2, unfrozen);
+    else check = (uint64_t)read_off(mask, n, unfrozen, hard, payload);
     memset(work, 0, words * sizeof *work);
-    return 256 * (uint64_t)b.cycles * sweeps + (check << 40);
+    return 256 * (uint64_t)b.cycles * sweeps + (check << 40) + (undecided << 41);
 }

@@ -58,6 +58,7 @@ void decode(const code *c, const int16_t *llrs, size_t sweeps, decoded *d) {
                                      d->payload, c->k, work, RUZNAVO_MAX_WORK_WORDS);
     if (ruznavo_number(answer)) fail("the decoder turned a frame down");
     d->frozen_check = (int)ruznavo_check(answer);
+    d->undecided = ruznavo_undecided(answer);
 }
 
 unsigned long wrong_bits(const code *c, const frame *f, const uint8_t *payload) {

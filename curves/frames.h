@@ -22,6 +22,7 @@ typedef struct {
     int32_t soft[MAX_N];
     uint8_t hard[MAX_N], payload[MAX_N];
     int frozen_check;
+    unsigned undecided; // bits of the hard word
 } decoded;
 
 // Says what went wrong, and ends the program with exit status 1.
@@ -39,7 +40,7 @@ void make_llrs(const code *c, const frame *f, float scale, int16_t *llrs);
 
 void decode(const code *c, const int16_t *llrs, size_t sweeps, decoded *d);
 
-// The number of wrong payload bits.
+// The number of wrong payload bits: all of them where a bit of the word is undecided, since the payload then is too.
 unsigned long wrong_bits(const code *c, const frame *f, const uint8_t *payload);
 
 #endif

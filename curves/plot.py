@@ -160,7 +160,7 @@ def error_legend():
         parts += [line(x, 44, x + 34, 44, COLOURS[sweeps], ' stroke-width="1.6"')]
         parts += [marker(x + 17, 44, MARKERS[sweeps], COLOURS[sweeps]), text(x + 42, 48, name, 12, "start")]
         x += 250 if sweeps == 0 else 150 if sweeps == 1 else 120
-    for x, name, extra in ((LEFT, "SCAN with LLRs at v / 16", ""), (LEFT + 250, "at v, 1 and 8 sweeps", DASH)):
+    for x, name, extra in ((LEFT, "SCAN with LLRs at v / 256", ""), (LEFT + 250, "at v, 1 and 8 sweeps", DASH)):
         parts.append(line(x, 66, x + 34, 66, "#333333", f' stroke-width="1.6"{extra}'))
         parts.append(text(x + 42, 70, name, 12, "start"))
     return parts

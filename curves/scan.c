@@ -36,18 +36,27 @@ static void visit(const scan *s, double *list, double *message, size_t size) {
 
 void scan_sweep(scan *s) { visit(s, s->lists, s->messages, s->n); }
 
-void scan_read(const scan *s, scan_result *result) {
+// Payload and frozen check of the hard word: undecided and 0 where one of its bits is.
+static void read_off(const scan *s, scan_result *result) {
     uint8_t u[MAX_N];
-    for (size_t i = 0; i < s->n; i++) {
-        result->soft[i] = s->messages[i];
-        u[i] = result->hard[i] = s->lists[i] + s->messages[i] < 0;
-    }
+    memcpy(u, result->hard, s->n);
     for (size_t h = 1; h < s->n; h *= 2)
         for (size_t i = 0; i < s->n; i++)
             if (!(i & h)) u[i] ^= u[i + h];
     size_t k = 0;
-    result->frozen_check = 1;
+    result->frozen_check = result->undecided == 0;
     for (size_t i = 0; i < s->n; i++)
-        if (!s->mask[i]) result->payload[k++] = u[i];
+        if (!s->mask[i]) result->payload[k++] = result->undecided ? 2 : u[i];
         else if (u[i]) result->frozen_check = 0;
+}
+
+void scan_read(const scan *s, scan_result *result) {
+    result->undecided = 0;
+    for (size_t i = 0; i < s->n; i++) {
+        double sum = s->lists[i] + s->messages[i];
+        result->soft[i] = s->messages[i];
+        result->hard[i] = sum < 0 ? 1 : sum > 0 ? 0 : 2;
+        result->undecided += result->hard[i] == 2;
+    }
+    read_off(s, result);
 }

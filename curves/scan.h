@@ -16,6 +16,7 @@ typedef struct {
     double soft[MAX_N]; // infinity is "certain"
     uint8_t hard[MAX_N], payload[MAX_N];
     int frozen_check;
+    unsigned undecided; // bits of the hard word
 } scan_result;
 
 // The state before the first sweep.

@@ -1,9 +1,10 @@
 // Block and bit error rates over the library's C interface: random payloads, encoder, BPSK with Gaussian noise, front
 // end, decoder. On the same frames:
 //   SC          successive cancellation, floating-point, on 2y/v, not rounded
-//   v/16, v     the library at several numbers of sweeps, its front end working with the noise variance v / 16 and v
+//   v/256, v    the library at several numbers of sweeps, its front end working with the noise variance v / 256 and v
 // In every frame, or in every so many, floating-point SCAN walked to the last leaf on the front end's LLRs must give
-// the library's soft values, bits, payload and frozen check; the first difference ends the run with exit status 1.
+// the library's soft values, bits, payload, frozen check and number of undecided bits; the first difference ends the
+// run with exit status 1.
 #define _POSIX_C_SOURCE 200809L
 #include "frames.h"
 #include "ruznavo.h"
@@ -18,14 +19,15 @@
 
 enum { SWEEPS = 4, SCALES = 2, SC = 0, CURVES = 1 + SCALES * SWEEPS, MAX_POINTS = 64 };
 static const size_t sweeps[SWEEPS] = {1, 2, 4, 8};
-static const float scales[SCALES] = {16, 1};
-static const char *const decoder_names[1 + SCALES] = {"SC", "v/16", "v"};
+static const float scales[SCALES] = {256, 1};
+static const char *const decoder_names[1 + SCALES] = {"SC", "v/256", "v"};
 
 static code c;
 
-// What is counted of one decoder. A block is right if all its payload bits are.
+// What is counted of one decoder. A block is right if all its payload bits are; with an undecided bit none is.
 typedef struct {
     unsigned long block_errors, bit_errors;
+    unsigned long undecided;    // blocks with an undecided bit
     unsigned long wrong_passed; // wrong blocks with frozen check 1
     unsigned long right_failed; // right blocks with frozen check 0
 } tally;
@@ -36,12 +38,14 @@ typedef struct {
     double ebn0_db;
 } point;
 
-static void count(tally *t, const frame *f, const uint8_t *payload, int frozen_check) {
+static void count(tally *t, const frame *f, const uint8_t *payload, int frozen_check, unsigned undecided) {
     unsigned long wrong = wrong_bits(&c, f, payload);
+    int in_error = undecided || wrong > 0;
     t->bit_errors += wrong;
-    t->block_errors += wrong > 0;
-    t->wrong_passed += wrong > 0 && frozen_check;
-    t->right_failed += wrong == 0 && !frozen_check;
+    t->block_errors += in_error;
+    t->undecided += undecided > 0;
+    t->wrong_passed += in_error && frozen_check;
+    t->right_failed += !in_error && !frozen_check;
 }
 
 static int same_soft(int32_t whole, double value) {
@@ -49,8 +53,8 @@ static int same_soft(int32_t whole, double value) {
 }
 
 static void compare(const point *p, int scale, size_t sweep_count, const decoded *d, const scan_result *s) {
-    int same = d->frozen_check == s->frozen_check && !memcmp(d->hard, s->hard, c.n) &&
-               !memcmp(d->payload, s->payload, c.k);
+    int same = d->frozen_check == s->frozen_check && d->undecided == s->undecided &&
+               !memcmp(d->hard, s->hard, c.n) && !memcmp(d->payload, s->payload, c.k);
     for (size_t i = 0; i < c.n; i++) same &= same_soft(d->soft[i], s->soft[i]);
     if (same) return;
     fprintf(stderr, "\n(%zu,%zu) %.2f dB, frame %lu, %s, %zu sweeps", c.n, c.k, p->ebn0_db, p->frames,
@@ -75,7 +79,7 @@ static void decode_at_scale(point *p, const frame *f, int scale, int comparing) 
     size_t done = 0;
     for (int s = 0; s < SWEEPS; s++) {
         decode(&c, llrs, sweeps[s], &d);
-        count(&p->tallies[1 + scale * SWEEPS + s], f, d.payload, d.frozen_check);
+        count(&p->tallies[1 + scale * SWEEPS + s], f, d.payload, d.frozen_check, d.undecided);
         if (!comparing) continue;
         for (; done < sweeps[s]; done++) scan_sweep(&walk);
         scan_read(&walk, &result);
@@ -83,13 +87,13 @@ static void decode_at_scale(point *p, const frame *f, int scale, int comparing) 
     }
 }
 
-// The decided frozen bits of SC are 0, so its blocks pass the frozen check.
+// The decided frozen bits of SC are 0, so its blocks pass the frozen check. It leaves no bit undecided.
 static void decode_by_sc(point *p, const frame *f) {
     float llrs[MAX_N];
     uint8_t payload[MAX_N];
     for (size_t i = 0; i < c.n; i++) llrs[i] = 2 * f->samples[i] / f->variance;
     sc_decode(c.mask, c.n, llrs, payload);
-    count(&p->tallies[SC], f, payload, 1);
+    count(&p->tallies[SC], f, payload, 1, 0);
 }
 
 static void show_progress(const point *p, int last) {
@@ -146,9 +150,9 @@ static void wilson(double errors, double frames, double *low, double *high) {
 static void write_row(FILE *csv, const point *p, const char *decoder, size_t sweep_count, const tally *t) {
     double low, high, errors = (double)t->block_errors, frames = (double)p->frames;
     wilson(errors, frames, &low, &high);
-    fprintf(csv, "%s,%zu,%zu,%.2f,%s,%zu,%lu,%lu,%lu,%lu,%lu,%lu,%lu,%.6g,%.6g,%.6g\n", c.name, c.n, c.k, p->ebn0_db,
-            decoder, sweep_count, p->frames, p->compared, t->block_errors, t->wrong_passed, t->right_failed,
-            t->bit_errors, p->frames * c.k, errors / frames, low, high);
+    fprintf(csv, "%s,%zu,%zu,%.2f,%s,%zu,%lu,%lu,%lu,%lu,%lu,%lu,%lu,%lu,%.6g,%.6g,%.6g\n", c.name, c.n, c.k,
+            p->ebn0_db, decoder, sweep_count, p->frames, p->compared, t->block_errors, t->undecided, t->wrong_passed,
+            t->right_failed, t->bit_errors, p->frames * c.k, errors / frames, low, high);
 }
 
 static void write_rows(FILE *csv, const point *p) {
@@ -164,6 +168,13 @@ static void print_row(const point *p) {
     for (int i = 0; i < CURVES; i++) printf(" %8.2e", (double)p->tallies[i].block_errors / (double)p->frames);
     printf("\n");
     fflush(stdout);
+}
+
+// The table's last row, of all points.
+static void print_undecided(unsigned long frames, const unsigned long *undecided) {
+    printf("%-17s %8lu", "undecided blocks", frames);
+    for (int i = 0; i < CURVES; i++) printf(" %8lu", undecided[i]);
+    printf("\n");
 }
 
 // FROM:STEP:TO, in dB.
@@ -201,8 +212,8 @@ static int read_settings(char **words, settings *s) {
     return fits && s->most_frames && s->block_errors && s->compare_every;
 }
 
-static const char columns[] = "mask,n,k,ebn0_db,decoder,sweeps,frames,compared,block_errors,wrong_passed,right_failed,"
-                              "bit_errors,bits,block_error_rate,low_95,high_95\n";
+static const char columns[] = "mask,n,k,ebn0_db,decoder,sweeps,frames,compared,block_errors,undecided,wrong_passed,"
+                              "right_failed,bit_errors,bits,block_error_rate,low_95,high_95\n";
 
 int main(int word_count, char **words) {
     double points[MAX_POINTS];
@@ -214,15 +225,17 @@ int main(int word_count, char **words) {
     if (!csv) return perror(words[7]), 2;
     fputs(columns, csv);
     print_heading();
-    unsigned long frames = 0, compared = 0;
+    unsigned long frames = 0, compared = 0, undecided[CURVES] = {0};
     for (int i = 0; i < point_count; i++) {
         point p = {.ebn0_db = points[i]};
         simulate(&p, &s);
         frames += p.frames;
         compared += p.compared;
+        for (int k = 0; k < CURVES; k++) undecided[k] += p.tallies[k].undecided;
         write_rows(csv, &p);
         print_row(&p);
     }
+    print_undecided(frames, undecided);
     printf("compared with SCAN on the same LLRs in %lu of %lu frames: no difference\n", compared, frames);
     return fclose(csv) ? 1 : 0;
 }

@@ -6,7 +6,7 @@ import math
 import sys
 
 SWEEPS = (1, 2, 4, 8)
-CURVES = [("SC", 0)] + [(decoder, sweeps) for decoder in ("v/16", "v") for sweeps in SWEEPS]
+CURVES = [("SC", 0)] + [(decoder, sweeps) for decoder in ("v/256", "v") for sweeps in SWEEPS]
 RATES = (0.1, 0.01, 0.001)
 SHOWN_SCALES = (1, 4, 16, 256, 1024, 4096, 16384)
 
@@ -56,8 +56,8 @@ def crossings(masks):
 
 
 def nearest_point(rows, rate):
-    """The Eb/N0 at which SCAN at v/16 and 1 sweep has a block error rate nearest to the rate."""
-    points = [row for row in of_curve(rows, ("v/16", 1)) if float(row["block_error_rate"]) > 0]
+    """The Eb/N0 at which SCAN at v/256 and 1 sweep has a block error rate nearest to the rate."""
+    points = [row for row in of_curve(rows, ("v/256", 1)) if float(row["block_error_rate"]) > 0]
     return min(points, key=lambda row: abs(math.log(float(row["block_error_rate"]) / rate)))["ebn0_db"]
 
 
@@ -68,11 +68,11 @@ def checks(masks):
     table = []
     for mask, rows in masks.items():
         db = nearest_point(rows, 0.01)
-        points = [row for s in SWEEPS for row in of_curve(rows, ("v/16", s)) if row["ebn0_db"] == db]
+        points = [row for s in SWEEPS for row in of_curve(rows, ("v/256", s)) if row["ebn0_db"] == db]
         passed = [f'{row["wrong_passed"]} of {row["block_errors"]}' for row in points]
         failed = [f'{row["right_failed"]} of {int(row["frames"]) - int(row["block_errors"])}' for row in points]
         table.append([name(mask), f"{float(db):g}"] + passed + failed)
-    print_table("Frozen check at v/16, at the point nearest to a block error rate of 0.01", columns, table)
+    print_table("Frozen check at v/256, at the point nearest to a block error rate of 0.01", columns, table)
 
 
 def percent(part, whole):
@@ -86,16 +86,48 @@ def largest(row):
     return row["largest"] + (f' ({percent(clamped, int(row["llrs"]))})' if clamped else "")
 
 
-def scales(masks):
-    names = [f"v/{scale}" if scale > 1 else "v" for scale in SHOWN_SCALES]
-    errors, clamps = [], []
+def scale_name(scale):
+    return f"v/{scale}" if scale > 1 else "v"
+
+
+def scale_heads(masks):
+    """The first cells of each mask's line, and its rows by scale."""
     for mask, rows in masks.items():
-        of = {int(row["scale"]): row for row in rows}
-        head = [name(mask), f'{float(rows[0]["ebn0_db"]):g}']
-        errors.append(head + [rows[0]["frames"], of[0]["block_errors"]] + [of[s]["block_errors"] for s in SHOWN_SCALES])
+        yield [name(mask), f'{float(rows[0]["ebn0_db"]):g}'], {int(row["scale"]): row for row in rows}
+
+
+def scales(masks):
+    names = [scale_name(scale) for scale in SHOWN_SCALES]
+    errors, clamps = [], []
+    for head, of in scale_heads(masks):
+        errors.append(head + [of[0]["frames"], of[0]["block_errors"]] + [of[s]["block_errors"] for s in SHOWN_SCALES])
         clamps.append(head + [largest(of[s]) for s in SHOWN_SCALES])
     print_table("Block errors by scale, 1 sweep", ["code | mask", "Eb/N0", "frames", "not rounded"] + names, errors)
     print_table("Largest LLR and share of LLRs clamped", ["code | mask", "Eb/N0"] + names, clamps)
+
+
+def undecided_by_scale(masks):
+    """Blocks with an undecided bit, and how many blocks are in error."""
+    names = ["not rounded"] + [scale_name(scale) for scale in SHOWN_SCALES]
+    table = []
+    for head, of in scale_heads(masks):
+        cells = [f'{of[s]["undecided"]} of {of[s]["block_errors"]}' for s in (0,) + SHOWN_SCALES]
+        table.append(head + [of[0]["frames"]] + cells)
+    title = "Blocks with an undecided bit, of the blocks in error, by scale, 1 sweep"
+    print_table(title, ["code | mask", "Eb/N0", "frames"] + names, table)
+
+
+def undecided_by_sweeps(masks):
+    """The same by sweeps, at v/256 and v."""
+    columns = ["code | mask", "Eb/N0", "frames"] + [f"{decoder}: {sweeps}" for decoder, sweeps in CURVES[1:]]
+    table = []
+    for mask, rows in masks.items():
+        db = nearest_point(rows, 0.01)
+        points = [row for curve in CURVES[1:] for row in of_curve(rows, curve) if row["ebn0_db"] == db]
+        cells = [f'{row["undecided"]} of {row["block_errors"]}' for row in points]
+        table.append([name(mask), f"{float(db):g}", points[0]["frames"]] + cells)
+    title = "The same by sweeps, at the point where v/256 at 1 sweep is nearest to a block error rate of 0.01"
+    print_table(title, columns, table)
 
 
 def main():
@@ -105,6 +137,8 @@ def main():
     print(f"{frames} frames, compared with SCAN in {compared}")
     crossings(curves)
     scales(by_scale)
+    undecided_by_scale(by_scale)
+    undecided_by_sweeps(curves)
     checks(curves)
 
 

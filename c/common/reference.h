@@ -50,11 +50,11 @@ int ref_plan(const uint8_t *mask, size_t N, uint8_t *plan, size_t room, uint32_t
 
 int ref_check_plan(const uint8_t *mask, size_t N, const uint8_t *plan, size_t plan_length, uint32_t *cycles);
 
-/* work is only measured and cleared. */
+/* work is only measured and cleared; undecided is the number of hard bits that are 2. */
 int ref_decode(const uint8_t *mask, size_t N, const uint8_t *plan, size_t plan_length, size_t sweeps,
                const int16_t *llrs, size_t llrs_length, int32_t *soft, size_t soft_room, uint8_t *hard,
                size_t hard_room, uint8_t *payload, size_t payload_room, int32_t *work, size_t words, uint32_t *cycles,
-               int *check);
+               int *check, size_t *undecided);
 
 /* The text goes to the front of out; `written` is its length. */
 int ref_replay(const uint8_t *capture, size_t length, uint8_t *out, size_t room, size_t *written);

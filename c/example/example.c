@@ -70,14 +70,19 @@ int main(void) {
     for (size_t i = 0; i < K; i++) payload[i] = random_bits() >> 8 & 1;
     accepted("encode", ruznavo_encode(mask, N, payload, K, word, N));
     send_word();
-    /* A variance of a sixteenth: LLRs and soft values on a larger scale lose less by rounding (ruznavo.h). */
-    accepted("samples", ruznavo_samples(samples, N, marks, N, variance / 16, llrs, N));
+    /* The variance divided by 256: LLRs and soft values on a larger scale lose less by rounding (ruznavo.h). */
+    accepted("samples", ruznavo_samples(samples, N, marks, N, variance / 256, llrs, N));
 
     for (size_t i = 0; i < N; i++) hard[i] = llrs[i] < 0;
     printf("received: %d of %d bits of the word wrong before decoding\n", different(hard, word, N), N);
 
     uint64_t answer = accepted("decode", ruznavo_decode(mask, N, plan, sizeof plan, SWEEPS, llrs, N, soft, N, hard, N,
                                                         decoded, K, work, sizeof work / sizeof *work));
+    /* Of a word with an undecided bit there is no payload: its bytes are RUZNAVO_UNDECIDED. */
+    if (ruznavo_undecided(answer)) {
+        printf("decoded: %u of %d bits of the word undecided\n", ruznavo_undecided(answer), N);
+        return 1;
+    }
     printf("decoded: %d of %d payload bits wrong, frozen check %u, %u cycles\n", different(decoded, payload, K), K,
            ruznavo_check(answer), (unsigned)ruznavo_cycles(answer));
     return different(decoded, payload, K) == 0 ? 0 : 1;

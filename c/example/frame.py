@@ -5,7 +5,7 @@
 
 A payload is encoded, sent over a noisy channel, converted to LLRs and decoded. The last four bits of the word are fixed
 to 0 by frozen positions and are not sent (shortened); the first four are not sent either (punctured).
-Exit status 1 if a payload bit is wrong. It needs the standard library only.
+Exit status 1 if a payload bit is wrong or undecided. It needs the standard library only.
 """
 import collections
 import ctypes
@@ -17,13 +17,13 @@ EXPONENT = 6
 N, K, SWEEPS = 2**EXPONENT, 28, 4
 NOT_SENT = 4  # punctured positions at the start, and as many shortened ones at the end
 VARIANCE = 0.6
-SCALE = 16  # LLRs are 16 times as large, so that rounding to whole numbers loses less
+SCALE = 256  # LLRs are 256 times as large, so that rounding to whole numbers loses less
 SEED = 3
 SENT, PUNCTURED, SHORTENED = 0, 1, 2  # marks, as in ruznavo.h
-LARGEST, CERTAIN = 32767, 2**31 - 1  # LLR, soft value
+LARGEST, CERTAIN, UNDECIDED = 32767, 2**31 - 1, 2  # LLR, soft value, bit
 KINDS = 8
 
-Frame = collections.namedtuple("Frame", "word llrs soft hard check right")
+Frame = collections.namedtuple("Frame", "word llrs soft hard check undecided right")
 
 # ---- the library
 
@@ -103,7 +103,7 @@ def decode_frame(library):
         ),
     )
     right = list(decoded) == list(payload)
-    return Frame(list(word), list(llrs), list(soft), list(hard), answer >> 40, right)
+    return Frame(list(word), list(llrs), list(soft), list(hard), answer >> 40 & 1, answer >> 41, right)
 
 
 # ---- the picture
@@ -186,12 +186,14 @@ def panel(name, top, values, word):
 
 
 def bit_row(name, top, bits, word):
+    """Wrong bits and undecided ones on a ground of their own colour; an undecided bit is a question mark."""
     parts = [text(LEFT - 8, top + 13, name, 12, "end")]
     for position, (bit, sent) in enumerate(zip(bits, word)):
         if bit != sent:
-            parts.append(box(at(position) - STEP / 2, top, STEP, ROW - 2, f'fill="{WRONG_BIT}"'))
+            colour = NOTHING if bit == UNDECIDED else WRONG_BIT
+            parts.append(box(at(position) - STEP / 2, top, STEP, ROW - 2, f'fill="{colour}"'))
         style = ' fill="white" font-weight="bold"' if bit != sent else ""
-        parts.append(text(at(position), top + 13, bit, 11, extra=style))
+        parts.append(text(at(position), top + 13, "?" if bit == UNDECIDED else bit, 11, extra=style))
     return parts
 
 
@@ -200,24 +202,35 @@ def legend(y):
     marks = [
         (6, lambda x: bar(x, y, 10, RIGHT_BIT), "speaks for the bit that was sent"),
         (242, lambda x: bar(x, y, 10, WRONG_BIT), "for the other bit"),
-        (388, lambda x: dot(x, y - 5), "0: for neither"),
-        (514, lambda x: triangle(x, y - 10), "fixed to 0: LLR 32767 (shortened), soft certain"),
+        (388, lambda x: dot(x, y - 5), "0: for neither (?)"),
+        (534, lambda x: triangle(x, y - 10), "fixed to 0: LLR 32767 (shortened), soft certain"),
     ]
     return [part for x, mark, words in marks for part in (mark(LEFT + x), text(LEFT + x + 12, y, words, 12, "start"))]
 
 
+def faults(bits, word):
+    """How many bits are wrong and how many undecided, in words."""
+    undecided = bits.count(UNDECIDED)
+    wrong = sum(a != b for a, b in zip(bits, word)) - undecided
+    return f"{wrong} wrong" + (f" and {undecided} undecided" if undecided else "")
+
+
 def title(frame, alone):
-    wrong, left = (sum(a != b for a, b in zip(bits, frame.word)) for bits in (alone, frame.hard))
-    first = f"One frame: N = {N}, K = {K}, noise variance v = {VARIANCE}, {SWEEPS} sweeps"
+    payload = "undecided" if frame.undecided else "right" if frame.right else "wrong"
+    first = f"One frame: N = {N}, K = {K}, noise variance v = {VARIANCE}, LLRs {SCALE} &#215; 2y / v, {SWEEPS} sweeps"
     second = (
-        f"Wrong bits of the word: {wrong} by the LLRs alone, {left} after decoding; payload "
-        f"{'right' if frame.right else 'wrong'}, frozen check {frame.check}. LLRs are {SCALE} &#215; 2y / v."
+        f"Bits of the word: {faults(alone, frame.word)} by the LLRs alone, {faults(frame.hard, frame.word)} after "
+        f"decoding; payload {payload}, frozen check {frame.check}"
     )
     return [text(LEFT, 26, first, 16, "start"), text(LEFT, 50, second, 13, "start")]
 
 
+def decide(value):
+    return UNDECIDED if value == 0 else int(value < 0)
+
+
 def draw(frame):
-    alone = [int(llr < 0) for llr in frame.llrs]
+    alone = [decide(llr) for llr in frame.llrs]
     fixed = [value == CERTAIN for value in frame.soft]
     shown = {
         "LLR": [None if llr == LARGEST else llr for llr in frame.llrs],

@@ -22,24 +22,33 @@
  *   mask       N bytes, 1 frozen to zero, 0 unfrozen
  *   plan       2N bytes; byte p belongs to node p of the tree: 1 is the root, 2p and 2p + 1 are the children of p,
  *              N to 2N - 1 the leaves. 1 cuts a node, 0 does not. Byte 0 is 0.
- *   payload    K bytes, one a bit
- *   word, hard N bytes, one a bit
+ *   payload    K bytes, one a bit; a decode with an undecided bit writes RUZNAVO_UNDECIDED to each of them
+ *   word       N bytes, one a bit
+ *   hard       N bytes, one a bit, RUZNAVO_UNDECIDED where the bit is undecided
  *   llrs       N values from -32767 to 32767; bit 0 is sent as +1, so a positive LLR speaks for bit 0
  *   soft       N values, each finite, within +-32767 * 1024, or RUZNAVO_CERTAIN
  *   work       RUZNAVO_WORK_WORDS(N) words
  *
  * Soft values. soft[k] is what the code adds to llrs[k]: bit k of the word is decided by the sign of llrs[k] + soft[k].
- * It is 1 exactly if that sum is negative, so a tie gives 0. RUZNAVO_CERTAIN stands where the frozen positions fix the
- * bit to 0, and the bit is 0 whatever the LLR. Test for it before adding: its sum with an LLR can leave 32 bits. The
- * sum of a finite soft value and an LLR never does.
+ * It is 1 if that sum is negative and 0 if it is positive; if it is 0, a tie, the bit is undecided. RUZNAVO_CERTAIN
+ * stands where the frozen positions fix the bit to 0, and the bit is 0 whatever the LLR. Test for it before adding: its
+ * sum with an LLR can leave 32 bits. The sum of a finite soft value and an LLR never does.
+ *
+ * Undecided bits. An undecided bit is 2 in the hard word (RUZNAVO_UNDECIDED). One such bit leaves the whole payload
+ * open: all K payload bytes are 2 then, and the frozen check is 0. ruznavo_undecided has the number of undecided bits
+ * of the word, from 0 to N; there is a payload only where it is 0. The word's other bits are decided all the same. A
+ * byte 2 is no bit: ruznavo_encode refuses it in a payload, and ruznavo_transform takes it as 0. Ties come of LLRs of
+ * 0, as punctured positions have them, of LLRs so small that they cancel, and of SCAN itself where LLRs contradict each
+ * other. There are none where no LLR is 0 and the signs of the LLRs are those of a word of the code.
  *
  * Scale. The scale of the LLRs is the caller's choice: for every whole number c above 0, c times the LLRs give c times
- * the finite soft values, the same certain ones, and the same hard bits, payload, frozen check and cycles. But
- * ruznavo_samples rounds to whole numbers, and on a larger scale that loses less: v / 16 handed in the place of the
- * noise variance v makes what is rounded 16 times as large, which keeps four more bits of each LLR. On every scale LLRs
- * are clamped to +-32767, and a shortened position gives 32767: keep the largest |LLR| well below that. Block errors of
- * 20000 frames at v, v / 4, v / 16, v / 256 and without rounding, for (1024, 64) at 2 dB and 1 sweep: 5533, 3195, 3059,
- * 3047, 3047 (docs/CURVES.md, which has other codes and says how to choose).
+ * the finite soft values, the same certain ones, and the same hard bits, undecided ones among them, payload, frozen
+ * check and cycles. But ruznavo_samples rounds to whole numbers, and on a larger scale that loses less, and fewer bits
+ * are undecided: v / 256 handed in the place of the noise variance v makes what is rounded 256 times as large, which
+ * keeps eight more bits of each LLR. On every scale LLRs are clamped to +-32767, and a shortened position gives 32767:
+ * keep the largest |LLR| well below that. Block errors of 20000 frames, blocks with an undecided bit among them, at v,
+ * v / 4, v / 16, v / 256 and without rounding, for (1024, 64) at 2 dB and 1 sweep: 8714, 4631, 3544, 3091, 3054
+ * (docs/CURVES.md, which has other codes and says how to choose).
  *
  * Floating point. ruznavo_samples alone computes with floating-point numbers. It needs the processor's default
  * settings (MXCSR): rounding to nearest, subnormal numbers kept as they are (neither flush-to-zero nor
@@ -66,10 +75,10 @@ extern "C" {
 #endif
 
 /* The version of this header and of the library that it belongs to. The shared object's name has the first number. */
-#define RUZNAVO_VERSION_MAJOR 0
-#define RUZNAVO_VERSION_MINOR 7
+#define RUZNAVO_VERSION_MAJOR 1
+#define RUZNAVO_VERSION_MINOR 8
 #define RUZNAVO_VERSION_PATCH 0
-#define RUZNAVO_VERSION "0.7.0"
+#define RUZNAVO_VERSION "1.8.0"
 
 #define RUZNAVO_MIN_N 2
 #define RUZNAVO_MAX_N 1024
@@ -82,6 +91,9 @@ extern "C" {
 
 /* The soft value "certain". */
 #define RUZNAVO_CERTAIN INT32_MAX
+
+/* The byte of an undecided bit in a hard word, and of each payload bit of such a word. */
+#define RUZNAVO_UNDECIDED 2
 
 /* n, for N = 2^n from 2 to 1024. The argument is evaluated more than once, here and below. */
 #define RUZNAVO_EXPONENT(N)                                                                                            \
@@ -171,12 +183,16 @@ static inline size_t ruznavo_text_length(uint64_t answer) { return (size_t)(answ
 static inline unsigned ruznavo_found(uint64_t answer) { return (unsigned)(answer >> 8 & 1); }
 
 /*
- * The frozen check of a decode: 1 exactly if the decoded frozen bits are all 0, that is, if the hard word is a word of
- * the code. It is no error detection: a wrong payload can have check 1, and a right one check 0. At 8 sweeps, 57 of 200
- * wrong blocks had check 1 for (1024, 512), mask by polarization weight, at 2.5 dB, and 186 of 215 for (1024, 896), mask
- * by erasure rates, at 5.5 dB (docs/CURVES.md). A host that must know puts a CRC into the payload.
+ * The frozen check of a decode: 1 exactly if no bit is undecided and the decoded frozen bits are all 0, that is, if the
+ * hard word is a word of the code. It is no error detection: a wrong payload can have check 1, and a right one check 0.
+ * At 8 sweeps, 55 of 200 wrong blocks had check 1 for (1024, 512), mask by polarization weight, at 2.5 dB, and 186 of
+ * 216 for (1024, 896), mask by erasure rates, at 5.5 dB (docs/CURVES.md). A host that must know puts a CRC into the
+ * payload.
  */
-static inline unsigned ruznavo_check(uint64_t answer) { return (unsigned)(answer >> 40); }
+static inline unsigned ruznavo_check(uint64_t answer) { return (unsigned)(answer >> 40 & 1); }
+
+/* The number of undecided bits of a decode's hard word. If it is not 0, there is no payload: its K bytes are 2. */
+static inline unsigned ruznavo_undecided(uint64_t answer) { return (unsigned)(answer >> 41); }
 
 /*
  * Received samples to LLRs: 2y / v, rounded to the nearest whole number, halves away from zero, within +-32767.
@@ -199,7 +215,7 @@ uint64_t ruznavo_encode(const uint8_t *mask, size_t mask_length, const uint8_t *
 
 /*
  * The transform in place: the row of bits is multiplied by the polar matrix, in natural order. A second transform gives
- * the bits again, so the transform of a hard word is the decoded row of frozen bits and payload.
+ * the bits again, so the transform of a hard word with no undecided bit is the decoded row of frozen bits and payload.
  *   bits     exactly N bytes, each taken modulo 2; all are written
  * Answers the number: 0 or 1.
  */
@@ -223,10 +239,11 @@ uint64_t ruznavo_check_plan(const uint8_t *mask, size_t mask_length, const uint8
 /*
  * Decodes. Every allowed plan gives the same results; plans differ in cycles and time.
  *   soft     the first N words are written
- *   hard     the first N bytes are written: the decided word
- *   payload  the first K bytes are written: the decided payload
+ *   hard     the first N bytes are written: the decided word, with RUZNAVO_UNDECIDED where a bit is undecided
+ *   payload  the first K bytes are written: the decided payload, or RUZNAVO_UNDECIDED in all K if a bit of the word is
+ *            undecided
  *   work     the first N(n + 3) words; what they held has no influence, and they are 0 afterwards
- * Answers the number, 0 to 7, 11 or 12, the cycles of all sweeps, and the frozen check.
+ * Answers the number, 0 to 7, 11 or 12, the cycles of all sweeps, the frozen check, and the number of undecided bits.
  */
 uint64_t ruznavo_decode(const uint8_t *mask, size_t mask_length, const uint8_t *plan, size_t plan_length, size_t sweeps,
                         const int16_t *llrs, size_t llrs_length, int32_t *soft, size_t soft_length, uint8_t *hard,
@@ -238,7 +255,7 @@ uint64_t ruznavo_decode(const uint8_t *mask, size_t mask_length, const uint8_t *
  * ones of i ones, so the rule looks at the distance between words alone, and not at how reliable a position is in SCAN.
  * Such a mask is good at high rates with several sweeps and at low error rates: for (1024, 896) it is level with a mask
  * by polarization weight at a block error rate of 0.001 and 8 sweeps. Elsewhere it needs 0.3 to 4.3 dB more: least at
- * that rate and at N = 128, most at low rates (docs/CURVES.md).
+ * that rate and at N = 128, most at rate 1/16 (docs/CURVES.md).
  *   n     N itself, not its exponent
  *   k     K
  *   mask  N bytes or more; the first N are written
@@ -260,7 +277,8 @@ uint64_t ruznavo_mask_for_distance(size_t n, size_t k, size_t d, uint8_t *mask, 
 /*
  * Replays a capture with the planner's plan of its mask, and writes the totals of its drains as text: a line for each
  * drain that occurs, in rising order, with drain, frames, frames whose frozen check is 1, hard bits that differ from the
- * LLR's sign (an LLR of 0 counts as bit 0) and cycles, in decimal, separated by single spaces and ended by a line feed.
+ * LLR's sign (an LLR of 0 counts as bit 0, and an undecided hard bit always differs) and cycles, in decimal, separated
+ * by single spaces and ended by a line feed.
  *   capture  at most RUZNAVO_MAX_CAPTURE bytes: frames, one after the other; then the mask, N bytes; then 16 bytes:
  *            44 52 4E 31 (hexadecimal), the mask's offset, the first frame's offset, which is 0, and the number of
  *            frames, each of 32 bits, low byte first. A frame is a drain number below 64, a sweep count and N LLRs,

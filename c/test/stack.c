@@ -1,7 +1,8 @@
 /*
  * Measures the stack that each call uses at N = 1024: the call runs on a stack of its own that was filled with a
- * pattern, and the bytes that no longer hold it are counted. Masks and plans are those that go deepest. Exit status 1 if
- * a call uses more than ruznavo.h says, or is refused.
+ * pattern, and the bytes that no longer hold it are counted. Masks and plans are those that go deepest, and the LLRs
+ * leave no bit undecided, so that there is a payload to be read off, but for one decode. Exit status 1 if a call uses
+ * more than ruznavo.h says, is refused, or leaves bits undecided where it should not.
  */
 #define _DEFAULT_SOURCE
 #include "captures.h"
@@ -61,6 +62,20 @@ static int measure(const char *name, void (*call)(void), size_t limit) {
     return ruznavo_number(answer) != RUZNAVO_OK || used >= limit;
 }
 
+/* All LLRs become this. Where it is above 0 they speak for the zero word, which is a word of the code: no tie. */
+static void set_llrs(int16_t llr) {
+    for (size_t i = 0; i < N; i++) llrs[i] = llr;
+}
+
+/* Decodes with no bit undecided, and with some. */
+static int measure_decodes(void) {
+    set_llrs(1);
+    int failed = measure("decode", call_decode, 5000) || ruznavo_undecided(answer) != 0;
+    set_llrs(0);
+    failed += measure("decode, bits undecided", call_decode, 5000) || ruznavo_undecided(answer) == 0;
+    return failed;
+}
+
 int main(void) {
     struct random r = {7};
     /* Every other pair is unfrozen, frozen, which is of no kind: the planner goes down to the leaves. */
@@ -73,7 +88,8 @@ int main(void) {
     failed += measure("samples, one not sent", call_samples, 200) + measure("encode", call_encode, 200) +
                  measure("transform", call_transform, 200) + measure("plan", call_plan, 2000);
     leaf_plan(plan, N);
-    failed += measure("check_plan", call_check_plan, 2000) + measure("decode", call_decode, 5000);
+    failed += measure("check_plan", call_check_plan, 2000) + measure_decodes();
+    set_llrs(1);
     capture_frame(&capture, 63, RUZNAVO_MAX_SWEEPS, llrs, N);
     capture_end(&capture, mask, N);
     failed += measure("replay", call_replay, 80000) + measure("mask_by_weight", call_mask_by_weight, 2500) +

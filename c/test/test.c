@@ -44,7 +44,10 @@ static const unsigned answers[CALLS] = {
 static uint64_t seed = 1, case_number;
 enum { NUMBERS = RUZNAVO_NOTHING_WANTED + 1 };
 static uint64_t number_seen[CALLS][NUMBERS], stage_seen[CALLS][REF_MAX_STAGE + 1], sweeps_seen[REF_MAX_SWEEPS + 1],
-    check_seen[2], found_seen[2];
+    found_seen[2];
+
+/* Accepted decodes by n: without an undecided bit and with one; and those without by their frozen check. */
+static uint64_t undecided_seen[2][REF_MAX_STAGE + 1], check_seen[2];
 
 /* Nodes of a kind by their stage, in accepted decodes: those that the plan goes below, and those that it cuts. */
 static uint64_t kind_seen[2][REF_KINDS][REF_MAX_STAGE + 1];
@@ -82,17 +85,18 @@ static void lock(const enum slot *inputs, size_t count, int writable) {
     for (size_t i = 0; i < count; i++) guarded_writable(&slots[inputs[i]], writable);
 }
 
-/* Of a replay `cycles` is the length of its text, which stands in the same place. */
-static void compare(enum call call, uint64_t answer, int number, uint32_t cycles, int check, const enum slot *used,
-                    size_t count) {
-    uint64_t expected = (uint64_t)number + 256 * (uint64_t)cycles + ((uint64_t)check << 40);
+/* The answer of a call that has one result beside the number, from bit 8 on: cycles, a text's length, or whether a mask
+ * was found. */
+static uint64_t answer_of(int number, uint64_t result) { return (uint64_t)number + 256 * result; }
+
+static void compare(enum call call, uint64_t answer, uint64_t expected, const enum slot *used, size_t count) {
     if (answer != expected) {
         printf("%s answers %" PRIx64 ", and %" PRIx64 " is expected\n", call_names[call], answer, expected);
         stop("wrong answer");
     }
     for (size_t i = 0; i < count; i++)
         if (guarded_differs(&slots[used[i]])) stop(call_names[call]);
-    number_seen[call][number]++;
+    number_seen[call][expected & 255]++;
 }
 
 /* ---- inputs */
@@ -219,7 +223,7 @@ static void samples_case(struct random *r) {
     uint64_t answer = ruznavo_samples(buffer(SAMPLE_VALUES), count, buffer(MARKS), marks_length, v, buffer(LLRS), room);
     lock(used, 2, 1);
     int number = ref_samples(twin(SAMPLE_VALUES), count, twin(MARKS), marks_length, v, twin(LLRS), room);
-    compare(SAMPLES, answer, number, 0, 0, used, 3);
+    compare(SAMPLES, answer, answer_of(number, 0), used, 3);
     if (number == 0) stage_seen[SAMPLES][ref_exponent(count)]++;
 }
 
@@ -245,7 +249,7 @@ static void encode_case(struct random *r) {
     uint64_t answer = ruznavo_encode(buffer(MASK), c.mask_length, buffer(PAYLOAD), payload_length, buffer(WORD), room);
     lock(used, 2, 1);
     int number = ref_encode(twin(MASK), c.mask_length, twin(PAYLOAD), payload_length, twin(WORD), room);
-    compare(ENCODE, answer, number, 0, 0, used, 3);
+    compare(ENCODE, answer, answer_of(number, 0), used, 3);
     if (number == 0) stage_seen[ENCODE][ref_exponent(c.mask_length)]++;
 }
 
@@ -262,7 +266,7 @@ static void transform_case(struct random *r) {
     int number = ref_exponent(length) ? 0 : 1;
     for (size_t i = 0; i < LONGEST; i++) reduced[i] = bits[i] % 2;
     if (number == 0) ref_transform(reduced, twin(WORD), length);
-    compare(TRANSFORM, answer, number, 0, 0, used, 1);
+    compare(TRANSFORM, answer, answer_of(number, 0), used, 1);
     if (number == 0) stage_seen[TRANSFORM][ref_exponent(length)]++;
 }
 
@@ -287,7 +291,7 @@ static void plan_case(struct random *r) {
     uint64_t answer = ruznavo_plan(buffer(MASK), c.mask_length, buffer(PLAN_BYTES), room, buffer(COUNTS));
     lock(used, 1, 1);
     int number = ref_plan(twin(MASK), c.mask_length, twin(PLAN_BYTES), room, twin(COUNTS), &cycles);
-    compare(PLAN, answer, number, cycles, 0, used, 3);
+    compare(PLAN, answer, answer_of(number, cycles), used, 3);
     if (number == 0) stage_seen[PLAN][ref_exponent(c.mask_length)]++;
 }
 
@@ -343,20 +347,28 @@ static void check_plan_case(struct random *r) {
     uint64_t answer = ruznavo_check_plan(buffer(MASK), c.mask_length, buffer(PLAN_BYTES), p.length);
     lock(used, 2, 1);
     int number = ref_check_plan(twin(MASK), c.mask_length, twin(PLAN_BYTES), p.length, &cycles);
-    compare(CHECK_PLAN, answer, number, cycles, 0, used, 2);
+    compare(CHECK_PLAN, answer, answer_of(number, cycles), used, 2);
     if (number == 0) stage_seen[CHECK_PLAN][ref_exponent(c.mask_length)]++;
 }
 
 /* ---- decoder */
 
-/* LLRs of a noisy word of the code, at a random noise variance. */
+/* LLRs of a noisy word of the code, at a random noise variance and on a random scale. */
 static void noisy_llrs(struct random *r, const struct code *c, int16_t *llrs) {
     uint8_t payload[REF_MAX_N], word[REF_MAX_N];
-    double v = 0.2 + 1.5 * random_uniform(r);
+    double v = 0.2 + 1.5 * random_uniform(r), scale = (double)((uint64_t)1 << random_below(r, 7));
     random_bytes(r, payload, c->K);
     ref_encode(c->mask, c->N, payload, c->K, word, c->N);
     for (size_t i = 0; i < c->N; i++)
-        llrs[i] = (int16_t)lround(2 * ((word[i] ? -1 : 1) + sqrt(v) * random_gauss(r)) / v);
+        llrs[i] = (int16_t)lround(scale * 2 * ((word[i] ? -1 : 1) + sqrt(v) * random_gauss(r)) / v);
+}
+
+/* One LLR becomes what cancels its soft value: a tie, unless the soft value depends on it. */
+static void make_tie(struct random *r, const struct code *c, size_t sweeps, int16_t *llrs) {
+    int32_t soft[REF_MAX_N];
+    size_t k = random_below(r, c->N);
+    ref_scan(c->mask, c->N, llrs, sweeps, soft);
+    if (soft[k] >= -RUZNAVO_MAX_LLR && soft[k] <= RUZNAVO_MAX_LLR) llrs[k] = (int16_t)-soft[k];
 }
 
 static void random_llrs(struct random *r, const struct code *c, int16_t *llrs) {
@@ -409,6 +421,7 @@ static void decode_case(struct random *r) {
     any_plan(r, &c, &p);
     random_llrs(r, &c, llrs);
     size_t sweeps = (size_t)random_from(r, 1, random_chance(r, 0.2) ? RUZNAVO_MAX_SWEEPS : 3);
+    if (random_chance(r, 0.2)) make_tie(r, &c, sweeps, llrs);
     struct rooms m = {
         c.N, sweeps, enough(r, c.N), enough(r, c.N), enough(r, c.K), enough(r, RUZNAVO_WORK_WORDS(c.N))};
     for (int d = damages(r); d > 0; d--) damage_decode(r, &c, &p, llrs, &m);
@@ -422,19 +435,22 @@ static void decode_case(struct random *r) {
     static const enum slot used[] = {MASK, PLAN_BYTES, LLRS, SOFT, HARD, PAYLOAD, WORK};
     uint32_t cycles;
     int check;
+    size_t undecided;
     lock(used, 3, 0);
     uint64_t answer =
         ruznavo_decode(buffer(MASK), c.mask_length, buffer(PLAN_BYTES), p.length, m.sweeps, buffer(LLRS), m.llrs,
                        buffer(SOFT), m.soft, buffer(HARD), m.hard, buffer(PAYLOAD), m.payload, buffer(WORK), m.work);
     lock(used, 3, 1);
-    int number =
-        ref_decode(twin(MASK), c.mask_length, twin(PLAN_BYTES), p.length, m.sweeps, twin(LLRS), m.llrs, twin(SOFT),
-                   m.soft, twin(HARD), m.hard, twin(PAYLOAD), m.payload, twin(WORK), m.work, &cycles, &check);
-    compare(DECODE, answer, number, cycles, check, used, 7);
+    int number = ref_decode(twin(MASK), c.mask_length, twin(PLAN_BYTES), p.length, m.sweeps, twin(LLRS), m.llrs,
+                            twin(SOFT), m.soft, twin(HARD), m.hard, twin(PAYLOAD), m.payload, twin(WORK), m.work,
+                            &cycles, &check, &undecided);
+    compare(DECODE, answer, answer_of(number, cycles) + ((uint64_t)check << 40) + ((uint64_t)undecided << 41), used, 7);
+    if (ruznavo_check(answer) != (unsigned)check || ruznavo_undecided(answer) != undecided) stop("the answer's parts");
     if (number != 0) return;
     stage_seen[DECODE][ref_exponent(c.mask_length)]++;
     sweeps_seen[m.sweeps]++;
-    check_seen[check]++;
+    undecided_seen[undecided > 0][ref_exponent(c.mask_length)]++;
+    if (undecided == 0) check_seen[check]++;
     count_kinds(c.mask, c.mask_length, p.bytes, 1, ref_exponent(c.mask_length));
 }
 
@@ -513,7 +529,7 @@ static void replay_case(struct random *r) {
     uint64_t answer = ruznavo_replay(buffer(CAPTURE), all.length, buffer(TEXT), room);
     lock(used, 1, 1);
     int number = ref_replay(twin(CAPTURE), all.length, twin(TEXT), room, &written);
-    compare(REPLAY, answer, number, (uint32_t)written, 0, used, 2);
+    compare(REPLAY, answer, answer_of(number, written), used, 2);
     if (number == 0) stage_seen[REPLAY][ref_exponent(c.N)]++;
 }
 
@@ -530,7 +546,7 @@ static void mask_by_weight_case(struct random *r) {
     static const enum slot used[] = {MASK};
     uint64_t answer = ruznavo_mask_by_weight(N, K, buffer(MASK), room);
     int number = ref_mask_by_weight(N, K, twin(MASK), room);
-    compare(MASK_BY_WEIGHT, answer, number, 0, 0, used, 1);
+    compare(MASK_BY_WEIGHT, answer, answer_of(number, 0), used, 1);
     if (number == 0) stage_seen[MASK_BY_WEIGHT][ref_exponent(N)]++;
 }
 
@@ -555,48 +571,91 @@ static void mask_for_distance_case(struct random *r) {
     static const enum slot used[] = {MASK};
     uint64_t answer = ruznavo_mask_for_distance(N, K, d, buffer(MASK), room);
     int found, number = ref_mask_for_distance(N, K, d, twin(MASK), room, &found);
-    compare(MASK_FOR_DISTANCE, answer, number, (uint32_t)found, 0, used, 1);
+    compare(MASK_FOR_DISTANCE, answer, answer_of(number, (uint64_t)found), used, 1);
     if (ruznavo_found(answer) != (unsigned)found) stop("whether a mask was found");
     if (number == 0) stage_seen[MASK_FOR_DISTANCE][ref_exponent(N)]++, found_seen[found]++;
 }
 
 /* ---- document 01's frames, so that library and reference cannot be wrong alike there */
 
+/* What is expected of a frame: soft values, hard word and payload, and the parts of the answer. */
 struct frame {
     const char *mask;
     size_t sweeps;
     int16_t llrs[8];
     int32_t soft[8];
+    const char *hard, *payload;
     uint32_t cycles;
+    unsigned check, undecided;
 };
 
 static const struct frame frames[] = {
-    {"11101000", 1, {3, -2, 5, 1, 4, -6, 2, -1}, {3, -4, 2, -7, 3, -2, 4, -5}, 10},
-    {"11101000", 2, {3, -2, 5, 1, 4, -6, 2, -1}, {3, -4, 2, -7, 3, -2, 4, -5}, 20},
-    {"1011", 1, {5, -3, 2, 1}, {-1, 2, RUZNAVO_CERTAIN, RUZNAVO_CERTAIN}, 6},
-    {"1011", 2, {5, -3, 2, 1}, {-3, 5, RUZNAVO_CERTAIN, RUZNAVO_CERTAIN}, 12},
-    {"10", 1, {7, -4}, {-4, 7}, 2},
-    {"1100", 1, {1, 2, 3, 4}, {3, 4, 1, 2}, 2},
-    {"11", 1, {7, -4}, {RUZNAVO_CERTAIN, RUZNAVO_CERTAIN}, 0},
-    {"00", 1, {7, -4}, {0, 0}, 0},
+    {"11101000", 1, {3, -2, 5, 1, 4, -6, 2, -1}, {3, -4, 2, -7, 3, -2, 4, -5}, "01010101", "0011", 10, 1, 0},
+    {"11101000", 2, {3, -2, 5, 1, 4, -6, 2, -1}, {3, -4, 2, -7, 3, -2, 4, -5}, "01010101", "0011", 20, 1, 0},
+    {"1011", 1, {5, -3, 2, 1}, {-1, 2, RUZNAVO_CERTAIN, RUZNAVO_CERTAIN}, "0100", "1", 6, 0, 0},
+    {"1011", 2, {5, -3, 2, 1}, {-3, 5, RUZNAVO_CERTAIN, RUZNAVO_CERTAIN}, "0000", "0", 12, 1, 0},
+    {"10", 1, {7, -4}, {-4, 7}, "00", "0", 2, 1, 0},
+    {"1100", 1, {1, 2, 3, 4}, {3, 4, 1, 2}, "0000", "00", 2, 1, 0},
+    {"11", 1, {7, -4}, {RUZNAVO_CERTAIN, RUZNAVO_CERTAIN}, "00", "", 0, 1, 0},
+    {"00", 1, {7, -4}, {0, 0}, "01", "11", 0, 1, 0},
     /* and a node of type II and one of type IV, worked out by hand */
-    {"11111000", 1, {1, -2, 3, -4, 5, -6, 7, -8}, {13, -12, 13, -14, 9, -8, 9, -10}, 4},
-    {"11100000", 1, {1, -2, 3, -4, 5, -6, 7, -8}, {5, -6, 7, -6, 1, -2, 3, -4}, 4},
+    {"11111000", 1, {1, -2, 3, -4, 5, -6, 7, -8}, {13, -12, 13, -14, 9, -8, 9, -10}, "01010101", "011", 4, 1, 0},
+    {"11100000", 1, {1, -2, 3, -4, 5, -6, 7, -8}, {5, -6, 7, -6, 1, -2, 3, -4}, "01010101", "00011", 4, 1, 0},
+    /* and ties: by an LLR of 0, by two LLRs that cancel, in one half only; a certain bit is none */
+    {"00", 1, {7, 0}, {0, 0}, "02", "22", 0, 0, 1},
+    {"10", 1, {4, -4}, {-4, 4}, "22", "2", 2, 0, 2},
+    {"1100", 1, {1, -2, -1, -4}, {-1, -4, 1, -2}, "2121", "22", 2, 0, 2},
+    {"11", 1, {0, 0}, {RUZNAVO_CERTAIN, RUZNAVO_CERTAIN}, "00", "", 0, 1, 0},
 };
+
+/* Whether bytes are these digits. */
+static int are_digits(const uint8_t *bytes, const char *digits) {
+    for (size_t i = 0; digits[i]; i++)
+        if (bytes[i] != digits[i] - '0') return 0;
+    return 1;
+}
 
 static void run_frame(const struct frame *f) {
     uint8_t mask[8], plan[16], hard[8], payload[8];
     uint32_t counts[RUZNAVO_KINDS];
     int32_t soft[8], reference[8], work[48];
-    size_t N = strlen(f->mask);
+    size_t N = strlen(f->mask), K = strlen(f->payload);
     for (size_t i = 0; i < N; i++) mask[i] = (uint8_t)(f->mask[i] - '0');
     if (ruznavo_number(ruznavo_plan(mask, N, plan, 2 * N, counts))) stop("a frame's plan");
     uint64_t answer =
-        ruznavo_decode(mask, N, plan, 2 * N, f->sweeps, f->llrs, N, soft, N, hard, N, payload, N, work, 48);
+        ruznavo_decode(mask, N, plan, 2 * N, f->sweeps, f->llrs, N, soft, N, hard, N, payload, K, work, 48);
     ref_scan(mask, N, f->llrs, f->sweeps, reference);
     if (ruznavo_number(answer) || ruznavo_cycles(answer) != f->cycles) stop("a frame's answer");
+    if (ruznavo_check(answer) != f->check || ruznavo_undecided(answer) != f->undecided) stop("a frame's check");
     if (memcmp(soft, f->soft, N * sizeof *soft) || memcmp(reference, f->soft, N * sizeof *soft))
         stop("a frame's soft values");
+    if (!are_digits(hard, f->hard) || !are_digits(payload, f->payload)) stop("a frame's bits");
+}
+
+/* LLRs of 0 and no frozen position: as many undecided bits as there can be. */
+static void run_undecided(void) {
+    static const int16_t llrs[REF_MAX_N] = {0};
+    static uint8_t mask[REF_MAX_N], plan[2 * REF_MAX_N] = {0, 1}, hard[REF_MAX_N], payload[REF_MAX_N];
+    static int32_t soft[REF_MAX_N], work[RUZNAVO_MAX_WORK_WORDS];
+    size_t N = REF_MAX_N;
+    uint64_t answer =
+        ruznavo_decode(mask, N, plan, 2 * N, 8, llrs, N, soft, N, hard, N, payload, N, work, RUZNAVO_MAX_WORK_WORDS);
+    if (answer != (uint64_t)1024 << 41 || ruznavo_undecided(answer) != 1024) stop("1024 undecided bits");
+    for (size_t i = 0; i < N; i++)
+        if (hard[i] != RUZNAVO_UNDECIDED || payload[i] != RUZNAVO_UNDECIDED) stop("an undecided bit");
+}
+
+/* A capture of one frame, whose two bits are undecided: the check is 0, and both bits differ from the LLRs' signs. */
+static void run_undecided_capture(void) {
+    static const uint8_t mask[2] = {1, 0};
+    static const int16_t llrs[2] = {3, -3};
+    static const char line[] = "5 1 0 2 2\n";
+    static uint8_t text[RUZNAVO_MAX_REPLAY];
+    static struct capture all;
+    capture_frame(&all, 5, 1, llrs, 2);
+    capture_end(&all, mask, 2);
+    uint64_t answer = ruznavo_replay(all.bytes, all.length, text, sizeof text);
+    if (answer != answer_of(0, strlen(line)) || memcmp(text, line, strlen(line))) stop("an undecided frame of a capture");
 }
 
 /* The report's places by name: a plan with one cut, the root. Of 2 and 4 positions two kinds fit. */
@@ -628,6 +687,8 @@ static void run_frames(void) {
     uint8_t bits[2][8];
     int16_t values[2][8];
     for (size_t i = 0; i < sizeof frames / sizeof *frames; i++) run_frame(&frames[i]);
+    run_undecided();
+    run_undecided_capture();
     if (ruznavo_encode(mask, 8, payload, 4, bits[0], 8) || ref_encode(mask, 8, payload, 4, bits[1], 8))
         stop("the word's answer");
     if (memcmp(bits[0], word, 8) || memcmp(bits[1], word, 8)) stop("the word");
@@ -668,6 +729,12 @@ static void run_mask(void) {
 
 /* ---- what was tried */
 
+static uint64_t undecided_decodes(void) {
+    uint64_t count = 0;
+    for (int n = 1; n <= REF_MAX_STAGE; n++) count += undecided_seen[1][n];
+    return count;
+}
+
 static void report(void) {
     for (int call = 0; call < CALLS; call++) {
         printf("%-17s", call_names[call]);
@@ -675,12 +742,13 @@ static void report(void) {
             if (number_seen[call][number]) printf("  %d: %" PRIu64, number, number_seen[call][number]);
         printf("\n");
     }
-    printf("decodes accepted with frozen check 0: %" PRIu64 ", 1: %" PRIu64 "\n", check_seen[0], check_seen[1]);
+    printf("decodes accepted with an undecided bit: %" PRIu64 "\n", undecided_decodes());
+    printf("decodes accepted with none, frozen check 0: %" PRIu64 ", 1: %" PRIu64 "\n", check_seen[0], check_seen[1]);
     printf("masks for a distance, none: %" PRIu64 ", found: %" PRIu64 "\n", found_seen[0], found_seen[1]);
 }
 
-/* A run of some length has tried every number that a call can answer, every N, every sweep count, both checks, and masks
- * for a distance that are found and that are not. */
+/* A run of some length has tried every number that a call can answer, every N, every sweep count, undecided bits,
+ * without these both checks, and masks for a distance that are found and that are not. */
 static void all_tried(void) {
     for (int call = 0; call < CALLS; call++) {
         for (int number = 0; number < NUMBERS; number++)
@@ -691,13 +759,17 @@ static void all_tried(void) {
     }
     for (int sweeps = 1; sweeps <= REF_MAX_SWEEPS; sweeps++)
         if (!sweeps_seen[sweeps]) stop("a number of sweeps not tried");
+    if (!undecided_decodes()) stop("undecided bits not tried");
     if (!check_seen[0] || !check_seen[1]) stop("a frozen check not tried");
     if (!found_seen[0] || !found_seen[1]) stop("a mask for a distance, found or not, not tried");
 }
 
-/* A longer run has cut every kind at every size at which a node has it, and gone below it where there are children. */
+/* A longer run has cut every kind at every size at which a node has it, and gone below it where there are children. And
+ * it has decoded with an undecided bit and with none at every N. */
 static void all_kinds_tried(void) {
     static const int least_stage[REF_KINDS] = {0, 0, 1, 2, 2, 3, 3, 3};
+    for (int n = 1; n <= REF_MAX_STAGE; n++)
+        if (!undecided_seen[0][n] || !undecided_seen[1][n]) stop("undecided bits, or none, not tried at an N");
     for (int kind = 0; kind < REF_KINDS; kind++)
         for (int n = 0; n <= REF_MAX_STAGE; n++) {
             int exists = n >= least_stage[kind];
