@@ -2,25 +2,21 @@
 use mathlib.Core.Path.{_≡_, refl, sym, _∙_, ap, ap₂}
 use mathlib.Core.Bool.{Bool, true, false, cond, _&&_}
 use mathlib.Core.List.{List, [], _∷_, _++_, append-assoc, append-nil}
-use Prim.Native.Nat.{ℕ, zero, suc, _+_, _^_, _<_, _≤_, max}
+use Prim.Native.Nat.{ℕ, zero, suc, _+_, _<_, _≤_, max}
 use native.Mathlib.Nat.{zero-add}
 use native.Mathlib.Numerals.{add-one}
 use native.Mathlib.Omega.{arith}
-use borrow.Author.Tests.{eq-eqb, ne-eqb, le-ltb}
+use borrow.Author.Tests.{eq-eqb, ne-eqb}
 use lib.Dec.{eqb}
-use lib.IntN.{ℤ, pos, negsuc}
-use lib.Signed.{ltZ, mag}
-use mir.Syntax.{w32}
+use lib.IntN.{pos, negsuc}
 use lib.ListN.{length, getD, set, take, drop, length-set, take-append-drop, drop-of-length-le}
 use lib.Seq.{drop-cons, drop-drop, take-suc-set, drop-set-lt, length-take-le}
 use Rattle.model.specs.Lists.{tabulate, bit, over}
-use mir.Val.{boolByte, ofZ, toZ}
-use mir.Val.{SFits}
-use Rattle.model.specs.Soft.{Soft, finite, certain, wordOf, plus, softOf}
-use Rattle.words.specs.Words.{write, addWord}
-use Rattle.words.proofs.Signed.{back}
+use mir.Val.{boolByte}
+use Rattle.model.specs.Soft.{Soft, finite, certain}
+use Rattle.words.specs.Words.{write}
 use Rattle.words.proofs.Store.{store-more}
-use Rattle.model.specs.Scan.{signBit, hardBit, undecidedIn}
+use Rattle.model.specs.Scan.{hardBit, undecidedIn}
 use Rattle.model.specs.Encoding.{isUnfrozen, unfrozen, payloadOf, frozenZero}
 use Rattle.model.proofs.Lists.{bit-small, and-assoc, and-true, first-left}
 use Rattle.inputs.proofs.Folds.{unfrozen-more}
@@ -28,26 +24,6 @@ use Rattle.inputs.proofs.Folds.{unfrozen-more}
 pub bit-bool : (b : Bool) → boolByte b ≡ bit b
 bit-bool true = refl
 bit-bool false = refl
-
--- a sum's bit by whether it is negative, and by whether it is 0
-pub negative-is : (z : ℤ) → boolByte (ltZ z (pos 0)) ≡ bit (eqb (signBit z) 1)
-negative-is (pos zero) = refl
-negative-is (pos (suc n)) = rw (le-ltb (suc n) 0 (omega arith)) refl
-negative-is (negsuc n) = refl
-
-pub tie-is : (z : ℤ) → SFits w32 z → boolByte (eqb (ofZ w32 z) 0) ≡ bit (eqb (signBit z) 2)
-tie-is (pos zero) f = refl
-tie-is (pos (suc n)) f = rw (ne-eqb (suc n) 0 (λ e. omega arith)) refl
-tie-is (negsuc n) f = rw (ne-eqb (ofZ w32 (negsuc n)) 0 (λ e. omega (arith, f .sfits))) refl
-
-pub not-tie : (z : ℤ) → (z ≡ pos 0 → ⊥) → bit (eqb (signBit z) 1) ≡ signBit z
-not-tie (pos zero) h = absurd (h refl)
-not-tie (pos (suc n)) h = refl
-not-tie (negsuc n) h = refl
-
--- the bit of a sum that is read back from its bits
-pub sign-back : (z : ℤ) {b : ℕ} → mag z < 2 ^ 31 → signBit z ≡ b → signBit (toZ w32 (ofZ w32 z)) ≡ b
-sign-back z h e = ap signBit (back {z = z} h) ∙ e
 
 pub bit-most : (s : Soft) → hardBit s ≤ 2
 bit-most (finite (pos zero)) = omega arith
@@ -81,15 +57,6 @@ pub ties-few : (n : ℕ) (f : ℕ → ℕ) → undecidedIn (tabulate n f) ≤ n
 unfolding undecidedIn tabulate
 ties-few zero f = omega arith
 ties-few (suc n) f = omega (arith, bit-small (eqb (f 0) 2), ties-few n (λ k. f (suc k)))
-
--- the hard bit from the word of the sum
-bit-word : (s : Soft) → signBit (wordOf s) ≡ hardBit s
-bit-word (finite z) = refl
-bit-word certain = refl
-
-pub decision : (a b : ℤ) → signBit (addWord a b) ≡ hardBit (plus (softOf a) (softOf b))
-unfolding addWord
-decision a b = bit-word (plus (softOf a) (softOf b))
 
 -- one store more from the front on
 pub store-at-zero : {A : Type 0} (w₀ w : List A) (k : ℕ) (v : A) (f : ℕ → A) → w ≡ write w₀ 0 k f → v ≡ f k → set w k v ≡ write w₀ 0 (k + 1) f

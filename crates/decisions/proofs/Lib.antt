@@ -1,3 +1,4 @@
 pub mod Folds
+pub mod Signs
 pub mod Buffers
 pub mod Reading

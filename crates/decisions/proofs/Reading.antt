@@ -2,26 +2,23 @@
 use mathlib.Core.Path.{_≡_, refl, sym, _∙_, ap, ap₂, subst}
 use mathlib.Core.Bool.{Bool, true, cond, _&&_}
 use mathlib.Core.List.{List, [], _∷_, _++_}
-use Prim.Native.Nat.{ℕ, _+_, _-_, _^_, _≤_}
+use Prim.Native.Nat.{ℕ, zero, suc, _+_, _-_, _^_, _≤_}
 use native.Mathlib.Nat.{zero-add}
 use native.Mathlib.Omega.{arith}
-use borrow.Author.Tests.{ne-eqb}
 use lib.Dec.{eqb}
 use lib.IntN.{ℤ}
 use lib.ListN.{length, getD, take, drop, replicate, List·getD-append}
 use lib.Seq.{length-take-le, take-at, drop-at, getD-append-add, getD-drop}
-use Rattle.model.specs.Lists.{tabulate, over, bit}
+use Rattle.model.specs.Lists.{tabulate, over}
 use Rattle.model.specs.Soft.{plus, softOf}
 use Rattle.model.specs.Encoding.{isUnfrozen, unfrozen, transform, payloadOf, frozenZero}
 use Rattle.model.specs.Scan.{undecidedIn}
-use Rattle.model.specs.Refusals.{refusal, exponent}
-use Rattle.model.proofs.Lists.{length-tabulate, getD-tabulate}
-use Rattle.model.proofs.Refusals.{exponent-power}
+use Rattle.model.proofs.Lists.{length-tabulate, getD-tabulate, bit-small}
 use Rattle.model.proofs.Transform.{length-transform}
 use Rattle.model.proofs.Undecided.{payload-decided, check-decided, payload-undecided, check-undecided}
 use Rattle.words.specs.Words.{word, write}
 use Rattle.words.proofs.Store.{write-is, write-ext, write-over}
-use Rattle.transform.specs.Calls.{transformNumber, transformBytes}
+use Rattle.transform.specs.Steps.{AllBits}
 use Rattle.decisions.specs.Bits.{decisionAt, negativeAt, wordDecisions, BitsRoom, WordRead, ReadOff}
 use Rattle.decisions.proofs.Buffers.{length-over}
 use Rattle.decisions.proofs.Folds.{bit-most, no-ties}
@@ -55,23 +52,18 @@ write-front z w n f h =
         ∙ ap (λ (k : ℕ). getD (drop k w) i z) len ∙ getD-drop n w i z ∙ ap (λ (k : ℕ). getD w k z) e
 
 -- ---- the decoded u
-transform-done : (v : List ℕ) → (exponent (length v) ≡ 0 → ⊥) → transformBytes v ≡ transform (exponent (length v)) v
-unfolding transformBytes transformNumber refusal
-transform-done v h = rw (ne-eqb (exponent (length v)) 0 h)
+module _ (hard u copied : List ℕ) (n N : ℕ) (room : BitsRoom n N (length hard) (length u)) (ec : copied ≡ over (take N hard) u) where
+  len : length (take N hard) ≡ N
+  len = length-take-le N hard (room .from-room)
 
-pub bits-law : (hard u copied v : List ℕ) (n : ℕ) → BitsRoom n (length hard) (length u) → copied ≡ over (take n hard) u → v ≡ transformBytes (take n copied)
-    → v ++ drop n copied ≡ over (transform (exponent n) (take n hard)) u
-unfolding over
-bits-law hard u copied v n room ec ev =
-    let T : List ℕ = take n hard in
-    let len : length T ≡ n = length-take-le n hard (room .from-room) in
-    let t : take n copied ≡ T = ap (take n) ec ∙ take-over T u n len in
-    let d : drop n copied ≡ drop n u = ap (drop n) ec ∙ drop-over T u n len in
-    let pw : n ≡ 2 ^ exponent n = exponent-power n (room .length-allowed) .0 in
-    let w : v ≡ transform (exponent n) T =
-    ev ∙ ap transformBytes t ∙ transform-done T (λ z. room .length-allowed (ap exponent (sym len) ∙ z)) ∙ ap (λ (k : ℕ). transform (exponent k) T) len in
-    ap₂ (λ (x y : List ℕ). x ++ y) w d
-    ∙ ap (λ (k : ℕ). transform (exponent n) T ++ drop k u) (sym (length-transform (exponent n) T ∙ sym pw))
+  pub copied-front : take N copied ≡ take N hard
+  copied-front = ap (take N) ec ∙ take-over (take N hard) u N len
+
+  pub bits-law : (v : List ℕ) → v ≡ transform n (take N copied) → v ++ drop N copied ≡ over (transform n (take N hard)) u
+  unfolding over
+  bits-law v ev =
+      ap₂ (λ (x y : List ℕ). x ++ y) (ev ∙ ap (transform n) copied-front) (ap (drop N) ec ∙ drop-over (take N hard) u N len)
+      ∙ ap (λ (k : ℕ). transform n (take N hard) ++ drop k u) (sym (length-transform n (take N hard) ∙ sym (room .size)))
 
 -- ---- a longer u reads the same
 pub payload-front : (mask u tail : List ℕ) → length mask ≤ length u → payloadOf mask (u ++ tail) ≡ payloadOf mask u
@@ -88,22 +80,28 @@ frozen-front (m ∷ mask) [] tail h = let z : ⊥ = omega arith in absurd z
 frozen-front (m ∷ mask) (x ∷ u) tail h = ap (λ (b : Bool). cond (isUnfrozen m) true (eqb x 0) && b) (frozen-front mask u tail (omega arith))
 
 -- ---- payload and check, from a longer u
-module _ (mask word u v : List ℕ) (n : ℕ) (allowed : exponent n ≡ 0 → ⊥) (positions : length mask ≡ n) (e : v ≡ over (transform (exponent n) word) u) where
-  front : v ≡ transform (exponent n) word ++ drop (length (transform (exponent n) word)) u
+module _ (mask word u v : List ℕ) (n : ℕ) (positions : length mask ≡ 2 ^ n) (e : v ≡ over (transform n word) u) where
+  front : v ≡ transform n word ++ drop (length (transform n word)) u
   unfolding over
   front = e
 
-  long : length mask ≤ length (transform (exponent n) word)
-  long = omega (arith, positions, length-transform (exponent n) word, exponent-power n allowed .0)
+  long : length mask ≤ length (transform n word)
+  long = omega (arith, positions, length-transform n word)
 
-  pub payload-law : payloadOf mask v ≡ payloadOf mask (transform (exponent n) word)
-  payload-law = ap (payloadOf mask) front ∙ payload-front mask (transform (exponent n) word) (drop (length (transform (exponent n) word)) u) long
+  pub payload-law : payloadOf mask v ≡ payloadOf mask (transform n word)
+  payload-law = ap (payloadOf mask) front ∙ payload-front mask (transform n word) (drop (length (transform n word)) u) long
 
-  pub check-law : frozenZero mask v ≡ frozenZero mask (transform (exponent n) word)
-  check-law = ap (frozenZero mask) front ∙ frozen-front mask (transform (exponent n) word) (drop (length (transform (exponent n) word)) u) long
+  pub check-law : frozenZero mask v ≡ frozenZero mask (transform n word)
+  check-law = ap (frozenZero mask) front ∙ frozen-front mask (transform n word) (drop (length (transform n word)) u) long
+
+tabulate-bits : (n : ℕ) (f : ℕ → ℕ) → ((k : ℕ) → f k ≤ 1) → AllBits (tabulate n f)
+unfolding tabulate
+tabulate-bits zero f h k = omega arith
+tabulate-bits (suc n) f h zero = h 0
+tabulate-bits (suc n) f h (suc k) = tabulate-bits n (λ j. f (suc j)) (λ j. h (suc j)) k
 
 -- ---- the steps of reading off: the hard word, and what its undecided bits decide
-module _ (mask : List ℕ) (llrs soft : List ℤ) (hard payload : List ℕ) (n : ℕ) (room : n ≤ length hard) {ties : ℕ} (counted : ties ≡ undecidedIn (wordDecisions llrs soft n)) where
+module _ (mask : List ℕ) (llrs soft : List ℤ) (hard payload : List ℕ) (t n : ℕ) (room : n ≤ length hard) {ties : ℕ} (counted : ties ≡ undecidedIn (wordDecisions llrs soft n)) where
   abbrev W : List ℕ
   W = wordDecisions llrs soft n
 
@@ -113,17 +111,23 @@ module _ (mask : List ℕ) (llrs soft : List ℤ) (hard payload : List ℕ) (n :
   -- with a tie the bits are decided once more, and there is no payload
   pub read-undecided : (ties ≡ 0 → ⊥) → (signs hard′ : List ℕ) → signs ≡ write hard 0 n (negativeAt llrs soft) → hard′ ≡ write signs 0 n (decisionAt llrs soft)
       → (k : ℕ) → k ≡ unfrozen mask → (payload′ : List ℕ) → payload′ ≡ over (replicate k 2) payload
-      → ReadOff mask (exponent n) W hard hard′ payload payload′ 0 ties
+      → ReadOff mask t W hard hard′ payload payload′ 0 ties
   read-undecided some signs hard′ es eh k K payload′ ep =
       let none : undecidedIn W ≡ 0 → ⊥ = λ z. some (counted ∙ z) in
       record {
         hard-is = hard-law hard′
             (eh ∙ ap (λ (l : List ℕ). write l 0 n (decisionAt llrs soft)) es
             ∙ write-over 0 hard 0 n (negativeAt llrs soft) (decisionAt llrs soft) (omega (arith, room)));
-        payload-is = ep ∙ ap (λ (m : ℕ). over (replicate m 2) payload) K ∙ ap (λ (l : List ℕ). over l payload) (sym (payload-undecided (exponent n) mask W none));
-        check-is = sym (check-undecided (exponent n) mask W none);
+        payload-is = ep ∙ ap (λ (m : ℕ). over (replicate m 2) payload) K ∙ ap (λ (l : List ℕ). over l payload) (sym (payload-undecided t mask W none));
+        check-is = sym (check-undecided t mask W none);
         undecided-is = counted;
       }
+
+  -- the bits by sign are bits
+  pub signs-bits : (hard′ : List ℕ) → hard′ ≡ write hard 0 n (negativeAt llrs soft) → AllBits (take n hard′)
+  signs-bits hard′ e =
+      subst AllBits (sym (ap (take n) (e ∙ write-front 0 hard n (negativeAt llrs soft) room) ∙ take-over (tabulate n (negativeAt llrs soft)) hard n (length-tabulate n (negativeAt llrs soft))))
+      (tabulate-bits n (negativeAt llrs soft) (λ k. bit-small (eqb (decisionAt llrs soft k) 1)))
 
   -- without ties the bits by sign are the hard bits
   module _ (none : ties ≡ 0) (hard′ : List ℕ) (e : hard′ ≡ write hard 0 n (negativeAt llrs soft)) where
@@ -139,12 +143,12 @@ module _ (mask : List ℕ) (llrs soft : List ℤ) (hard payload : List ℕ) (n :
     word-law : take n hard′ ≡ W
     word-law = ap (take n) signs-law ∙ take-over W hard n (length-tabulate n (decisionAt llrs soft))
 
-    pub read-bits : {payload′ : List ℕ} {check : ℕ} → WordRead mask (exponent n) (take n hard′) payload payload′ check → ReadOff mask (exponent n) W hard hard′ payload payload′ check 0
+    pub read-bits : {payload′ : List ℕ} {check : ℕ} → WordRead mask t (take n hard′) payload payload′ check → ReadOff mask t W hard hard′ payload payload′ check 0
     read-bits {payload′} {check} r =
-        let of-word : WordRead mask (exponent n) W payload payload′ check = subst (λ (w : List ℕ). WordRead mask (exponent n) w payload payload′ check) word-law r in
+        let of-word : WordRead mask t W payload payload′ check = subst (λ (w : List ℕ). WordRead mask t w payload payload′ check) word-law r in
         record {
           hard-is = signs-law;
-          payload-is = of-word .payload-is ∙ ap (λ (l : List ℕ). over l payload) (sym (payload-decided (exponent n) mask W no-tie));
-          check-is = of-word .check-is ∙ sym (check-decided (exponent n) mask W no-tie);
+          payload-is = of-word .payload-is ∙ ap (λ (l : List ℕ). over l payload) (sym (payload-decided t mask W no-tie));
+          check-is = of-word .check-is ∙ sym (check-decided t mask W no-tie);
           undecided-is = sym no-tie;
         }

@@ -1,47 +1,44 @@
 // What is read off the soft values: hard bits, payload, frozen check and the number of undecided bits.
 use inputs::UNFROZEN;
 use inputs::larger;
-use transform::transform;
-use words::add_words;
+use transform::strides;
+use words::widened;
 ghost use mathlib.Core.Path.{_≡_};
 ghost use mathlib.Core.Bool.{cond};
-ghost use Prim.Native.Nat.{_≤_, _<_};
+ghost use Prim.Native.Nat.{_≤_};
 ghost use lib.Dec.{eqb};
+ghost use lib.IntN.{negℤ};
 ghost use lib.ListN.{length, take, replicate};
 ghost use Rattle.model.specs.Lists.{bit, over};
 ghost use Rattle.model.specs.Encoding.{isUnfrozen, unfrozen, payloadOf, frozenZero};
 ghost use Rattle.model.specs.Encoding as encoding;
-ghost use Rattle.model.specs.Scan.{signBit, undecidedIn};
-ghost use Rattle.model.specs.Refusals.{exponent};
-ghost use Rattle.words.specs.Words.{word, write, Added};
-ghost use Rattle.decisions.specs.Bits.{decisionAt, negativeAt, wordDecisions, Decidable, BitsRoom, WordRoom, WordRead, Readable, ReadOff};
+ghost use Rattle.model.specs.Scan.{undecidedIn};
+ghost use Rattle.transform.specs.Steps.{AllBits};
+ghost use Rattle.words.specs.Words.{write};
+ghost use Rattle.decisions.specs.Bits.{decision, decisionAt, negativeAt, wordDecisions, Decidable, BitsRoom, WordRoom, WordRead, Readable, ReadOff};
 
 // The byte of an undecided bit, and of each payload bit of a word that has one.
 const UNDECIDED: u8 = 2;
 
-// LLR plus soft value, at a place.
-fn sum_at(llrs: &[i16], soft: &[i32], k: usize) -> i32
-    requires { ⌜ (k < length (now llrs)) × (k < length (now soft)) × Added (word (now llrs) k) (word (now soft) k) ⌝ }
-    ensures { λ r. ⌜ signBit r ≡ decisionAt (now (llrs .entry)) (now (soft .entry)) k ⌝ }
+// The LLR negated. LLR plus soft has the sign of the soft value against this, so no sum is formed.
+fn opposite(llr: i16) -> i32
+    ensures { λ r. ⌜ r ≡ negℤ llr ⌝ }
 {
-    let llr = llrs[k] as i32;
-    let value = soft[k];
-    let both = add_words(llr, value);
-    both
+    0 - widened(llr)
 }
 
-// 1 for a negative sum, 0 for another.
-fn negative_bit(sum: i32) -> u8
-    ensures { λ r. ⌜ r ≡ bit (eqb (signBit sum) 1) ⌝ }
+// 1 where LLR plus soft is negative, otherwise 0.
+fn negative_bit(llr: i16, soft: i32) -> u8
+    ensures { λ r. ⌜ r ≡ bit (eqb (decision llr soft) 1) ⌝ }
 {
-    (sum < 0) as u8
+    (soft < opposite(llr)) as u8
 }
 
-// 1 for a tie, a sum of 0, and 0 for another.
-fn tie_bit(sum: i32) -> u32
-    ensures { λ r. ⌜ r ≡ bit (eqb (signBit sum) 2) ⌝ }
+// 1 for a tie, where LLR plus soft is 0, otherwise 0.
+fn tie_bit(llr: i16, soft: i32) -> u32
+    ensures { λ r. ⌜ r ≡ bit (eqb (decision llr soft) 2) ⌝ }
 {
-    (sum == 0) as u32
+    (soft == opposite(llr)) as u32
 }
 
 // The bits by the signs of LLR plus soft, where there is no tie; answers the number of ties. Most words have none, and so
@@ -54,22 +51,23 @@ fn decide_signs(llrs: &[i16], soft: &[i32], hard: &mut [u8], size: usize) -> u32
     let mut ties: u32 = 0;
     let mut k = 0;
     while k < size {
-        let sum = sum_at(llrs, soft, k);
-        hard[k] = negative_bit(sum);
-        ties += tie_bit(sum);
+        let llr = llrs[k];
+        let value = soft[k];
+        hard[k] = negative_bit(llr, value);
+        ties += tie_bit(llr, value);
         k += 1;
     }
     ties
 }
 
-// The hard bit by the sign of a sum.
-fn hard_bit(sum: i32) -> u8
-    ensures { λ r. ⌜ r ≡ signBit sum ⌝ }
+// The hard bit, by the sign of LLR plus soft.
+fn hard_bit(llr: i16, soft: i32) -> u8
+    ensures { λ r. ⌜ r ≡ decision llr soft ⌝ }
 {
-    if sum == 0 {
+    if soft == opposite(llr) {
         UNDECIDED
     } else {
-        negative_bit(sum)
+        negative_bit(llr, soft)
     }
 }
 
@@ -80,7 +78,9 @@ fn decide(llrs: &[i16], soft: &[i32], hard: &mut [u8], size: usize)
 {
     let mut k = 0;
     while k < size {
-        hard[k] = hard_bit(sum_at(llrs, soft, k));
+        let llr = llrs[k];
+        let value = soft[k];
+        hard[k] = hard_bit(llr, value);
         k += 1;
     }
 }
@@ -146,37 +146,46 @@ fn copy_bytes(from: &[u8], to: &mut [u8], size: usize)
     }
 }
 
-// The decoded u, to the front of u: the transform of the hard word of N bits.
-fn decoded_bits(hard: &[u8], u: &mut [u8], size: usize)
-    requires { ⌜ BitsRoom size (length (now hard)) (length (now u)) ⌝ }
-    ensures { λ _. ⌜ now (u .exit) ≡ over (encoding.transform (exponent size) (take size (now (hard .entry)))) (now (u .entry)) ⌝ }
+// The decoded u, to the front of u: the transform of the hard word of N bits, all decided. Here and below `stage` is the exponent of N.
+fn decoded_bits(hard: &[u8], u: &mut [u8], size: usize, stage: usize)
+    requires { ⌜ BitsRoom stage size (length (now hard)) (length (now u)) × AllBits (take size (now hard)) ⌝ }
+    ensures { λ _. ⌜ now (u .exit) ≡ over (encoding.transform stage (take size (now (hard .entry)))) (now (u .entry)) ⌝ }
 {
     copy_bytes(hard, u, size);
-    transform(&mut u[..size]);
+    strides(&mut u[..size], stage);
 }
 
 // The payload of a hard word of N bits that are all decided, through a buffer for the decoded u; answers the frozen check.
-fn read_through(mask: &[u8], hard: &[u8], payload: &mut [u8], u: &mut [u8], size: usize) -> u8
-    requires { ⌜ WordRoom (now mask) size (length (now hard)) (length (now payload)) × (size ≤ length (now u)) ⌝ }
-    ensures { λ r. ⌜ WordRead (now (mask .entry)) (exponent size) (take size (now (hard .entry))) (now (payload .entry)) (now (payload .exit)) r ⌝ }
+fn read_through(
+    mask: &[u8],
+    hard: &[u8],
+    payload: &mut [u8],
+    u: &mut [u8],
+    size: usize,
+    stage: usize,
+) -> u8
+    requires { ⌜ WordRoom (now mask) stage size (length (now hard)) (length (now payload)) × (size ≤ length (now u)) ⌝ }
+    requires { ⌜ AllBits (take size (now hard)) ⌝ }
+    ensures { λ r. ⌜ WordRead (now (mask .entry)) stage (take size (now (hard .entry))) (now (payload .entry)) (now (payload .exit)) r ⌝ }
 {
-    decoded_bits(hard, u, size);
+    decoded_bits(hard, u, size, stage);
     read_payload(mask, u, payload);
     frozen_check(mask, u)
 }
 
 // The payload of a hard word of N bits that are all decided; answers the frozen check. A short word has a short buffer,
 // since clearing the long one would cost it more than the rest.
-fn read_decided(mask: &[u8], hard: &[u8], payload: &mut [u8], size: usize) -> u8
-    requires { ⌜ WordRoom (now mask) size (length (now hard)) (length (now payload)) ⌝ }
-    ensures { λ r. ⌜ WordRead (now (mask .entry)) (exponent size) (take size (now (hard .entry))) (now (payload .entry)) (now (payload .exit)) r ⌝ }
+fn read_decided(mask: &[u8], hard: &[u8], payload: &mut [u8], size: usize, stage: usize) -> u8
+    requires { ⌜ WordRoom (now mask) stage size (length (now hard)) (length (now payload)) ⌝ }
+    requires { ⌜ AllBits (take size (now hard)) ⌝ }
+    ensures { λ r. ⌜ WordRead (now (mask .entry)) stage (take size (now (hard .entry))) (now (payload .entry)) (now (payload .exit)) r ⌝ }
 {
     if size <= 64 {
         let mut short = [0u8; 64];
-        return read_through(mask, hard, payload, &mut short, size);
+        return read_through(mask, hard, payload, &mut short, size, stage);
     }
     let mut long = [0u8; 1024];
-    read_through(mask, hard, payload, &mut long, size)
+    read_through(mask, hard, payload, &mut long, size, stage)
 }
 
 // The frozen check and the number of undecided bits.
@@ -193,14 +202,15 @@ pub fn read_off(
     hard: &mut [u8],
     payload: &mut [u8],
     size: usize,
+    stage: usize,
     k: usize,
 ) -> Result
-    requires { ⌜ Readable (now mask) (now llrs) (now soft) size k (length (now hard)) (length (now payload)) ⌝ }
-    ensures { λ r. ⌜ ReadOff (now (mask .entry)) (exponent size) (wordDecisions (now (llrs .entry)) (now (soft .entry)) size) (now (hard .entry)) (now (hard .exit)) (now (payload .entry)) (now (payload .exit)) (r .check) (r .undecided) ⌝ }
+    requires { ⌜ Readable (now mask) (now llrs) (now soft) stage size k (length (now hard)) (length (now payload)) ⌝ }
+    ensures { λ r. ⌜ ReadOff (now (mask .entry)) stage (wordDecisions (now (llrs .entry)) (now (soft .entry)) size) (now (hard .entry)) (now (hard .exit)) (now (payload .entry)) (now (payload .exit)) (r .check) (r .undecided) ⌝ }
 {
     let ties = decide_signs(llrs, soft, hard, size);
     if ties == 0 {
-        let check = read_decided(mask, hard, payload, size);
+        let check = read_decided(mask, hard, payload, size, stage);
         return Result {
             check,
             undecided: 0,

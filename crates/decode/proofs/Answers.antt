@@ -19,10 +19,10 @@ use Rattle.model.specs.Refusals.{refusal, row-1, row-2, row-3, row-4, row-5, ro
 use Rattle.model.proofs.Lists.{length-tabulate, tabulate-same, tabulate-ext, double}
 use Rattle.model.proofs.Bounds.{soft-under, cap-limit, under-mono}
 use Rattle.model.proofs.Refusals.{refusal-then, passes, llrs-small}
-use Rattle.model.proofs.Theorems.{decision-bound, cycles-most}
+use Rattle.model.proofs.Theorems.{cycles-most}
 use Rattle.inputs.proofs.Rows.{passed-few}
-use Rattle.words.specs.Words.{word, write, stored, addWord, Added}
-use Rattle.words.proofs.Laws.{soft-fin, soft-word, word-in}
+use Rattle.words.specs.Words.{word, write, stored}
+use Rattle.words.proofs.Laws.{soft-fin, soft-word}
 use Rattle.words.proofs.Store.{write-in, length-write}
 use Rattle.scan.specs.Space.{Decodable}
 use Rattle.decisions.specs.Bits.{decisionAt, wordDecisions, Readable, ReadOff}
@@ -209,20 +209,10 @@ module _ (g : Given) where
             soft-fin (word llrs j) (λ e. let f : natAbs (word llrs j) ≡ mark = ap natAbs e in omega (arith, small j))
             ∙ sym (List·getD-map finite llrs j (pos 0))
 
-        -- the sums that the decisions form
-        pub sums : (j : ℕ) → j < N → Added (word llrs j) (word soft′ j)
-        unfolding addWord
-        sums j lt = (
-          omega (arith, small j),
-          word-in limit (plus (softOf (word llrs j)) (softOf (word soft′ j))) (omega arith)
-              (subst (Under limit) (sym (ap₂ plus (llr-place j) (soft-place j lt)))
-              (decision-bound t (p .mask-passed .low) mask (map finite llrs) (llrs-small t llrs (p .range)) k j (omega (arith, p .mask-passed .sized)))),
-        )
-
-        pub readable : {count : ℕ} → count ≡ unfrozen mask → Readable mask llrs soft′ N count (length hard) (length payload)
+        pub readable : {count : ℕ} → count ≡ unfrozen mask → Readable mask llrs soft′ t N count (length hard) (length payload)
         readable is = record {
           room = record {
-            length-allowed = λ e. p .mask-passed .not-zero (p .mask-passed .stage-is ∙ e);
+            size = p .mask-passed .sized;
             few = few;
             positions = refl;
             bits = hard-room;
@@ -234,7 +224,6 @@ module _ (g : Given) where
             values = omega (arith, p .values);
             softs = omega (arith, ap length es, length-stored, soft-room);
             bits = hard-room;
-            sums = sums;
           };
         }
           where
@@ -249,10 +238,6 @@ module _ (g : Given) where
             (λ j lt. ap hardBit (ap₂ plus (llr-place j) (soft-place j lt)))
             ∙ ap (λ (m : ℕ). tabulate m (λ j. hardBit (plus (map finite llrs at j) (scan t mask (map finite llrs) k at j)))) (p .mask-passed .sized)
 
-        -- what is read off it, in the call's exponent
-        read-is : {A : Type 0} (f : ℕ → List ℕ → A) → f (exponent N) (wordDecisions llrs soft′ N) ≡ f t (hardWord t (map finite llrs) (scan t mask (map finite llrs) k))
-        read-is f = ap₂ f (sym (p .mask-passed .stage-is)) decisions-are
-
         -- the definition's answer in the call's exponent
         answer-is : decodeAnswer call ≡ decodeScan t mask (map finite llrs) k
         unfolding decodeAnswer
@@ -263,21 +248,21 @@ module _ (g : Given) where
           accept = eq-eqb (decodeNumber call) 0 (sym zero-is)
 
           pub accepted-outcome : {r c d u check undecided : ℕ} {hard′ payload′ : List ℕ} {work′ : List ℤ} → r ≡ 0 → c ≡ k * cycles → d ≡ check → u ≡ undecided
-              → ReadOff mask (exponent N) (wordDecisions llrs soft′ N) hard hard′ payload payload′ check undecided
+              → ReadOff mask t (wordDecisions llrs soft′ N) hard hard′ payload payload′ check undecided
               → work′ ≡ write work 0 (N * (t + 3)) (λ i. pos 0)
               → Outcome g (lent soft′ hard′ payload′ work′) r c d u
           unfolding decodeCycles decodeCheck decodeUndecided decodeSoft decodeHard decodePayload decodeWork decodeScan decided
           accepted-outcome er ec ed eu off ew = record {
             number-is = er ∙ zero-is;
             cycles-is = ec ∙ ap (λ (m : ℕ). k * m) (p .cycles-is ∙ ap (λ (m : ℕ). plans.cycles plan m 1 mask) (p .mask-passed .stage-is)) ∙ sym (rw accept);
-            check-is = ed ∙ off .check-is ∙ read-is (λ n w. decidedCheck n mask w) ∙ sym (rw accept (ap (λ a. a .check) answer-is));
-            undecided-is = eu ∙ off .undecided-is ∙ read-is (λ n w. undecidedIn w) ∙ sym (rw accept (ap (λ a. a .undecided) answer-is));
+            check-is = ed ∙ off .check-is ∙ ap (decidedCheck t mask) decisions-are ∙ sym (rw accept (ap (λ a. a .check) answer-is));
+            undecided-is = eu ∙ off .undecided-is ∙ ap undecidedIn decisions-are ∙ sym (rw accept (ap (λ a. a .undecided) answer-is));
             left = record {
               soft-is = es ∙ write-front (pos 0) soft N (λ i. wordOf (scan t mask (map finite llrs) k at i)) soft-room
                   ∙ ap (λ (l : List ℤ). over l soft) (by-places wordOf (scan t mask (map finite llrs) k) softZero N (scan-length t (p .mask-passed .not-zero) mask (map finite llrs) k ∙ sym (p .mask-passed .sized)))
                   ∙ sym (rw accept (ap (λ a. over (map wordOf (a .soft)) soft) answer-is));
               hard-is = off .hard-is ∙ ap (λ (l : List ℕ). over l hard) decisions-are ∙ sym (rw accept (ap (λ a. over (a .hard) hard) answer-is));
-              payload-is = off .payload-is ∙ read-is (λ n w. over (decidedPayload n mask w) payload) ∙ sym (rw accept (ap (λ a. over (a .payload) payload) answer-is));
+              payload-is = off .payload-is ∙ ap (λ (w : List ℕ). over (decidedPayload t mask w) payload) decisions-are ∙ sym (rw accept (ap (λ a. over (a .payload) payload) answer-is));
               work-is = ew ∙ ap (λ (m : ℕ). write work 0 (N * (m + 3)) (λ i. pos 0)) (p .mask-passed .stage-is)
                   ∙ write-front (pos 0) work (N * (n + 3)) (λ i. pos 0) work-room
                   ∙ ap (λ (l : List ℤ). over l work) (tabulate-same (N * (n + 3)) (pos 0)) ∙ sym (rw accept);

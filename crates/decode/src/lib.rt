@@ -158,7 +158,7 @@ pub fn decode(
     }
     soft_values(mask, plan, llrs, sweeps, size, stage, soft, work);
     fill(work, 0, words, 0);
-    let read = read_off(mask, llrs, soft, hard, payload, size, k);
+    let read = read_off(mask, llrs, soft, hard, payload, size, stage, k);
     let cycles = sweeps as u32 * input.cycles;
     answer(0, cycles, read.check, read.undecided)
 }

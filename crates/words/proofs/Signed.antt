@@ -100,12 +100,12 @@ larger a b = rw (flip-order a b) (go (ltZ b a))
     go true = suc-flip a
     go false = suc-flip b
 
-sum-not : (x y : ℕ) → ltZ (pos x) (negℤ (pos y)) ≡ false
+pub sum-not : (x y : ℕ) → ltZ (pos x) (negℤ (pos y)) ≡ false
 sum-not x zero = le-ltb x 0 zero-le
 sum-not x (suc y) = refl
 
 -- the sum of words of different signs, by the sizes
-sum-less : (x y : ℕ) → ltZ (negsuc x) (negℤ (pos y)) ≡ ltb y (suc x)
+pub sum-less : (x y : ℕ) → ltZ (negsuc x) (negℤ (pos y)) ≡ ltb y (suc x)
 sum-less x zero = sym (lt-ltb 0 (suc x) (omega arith))
 sum-less x (suc y) = sym (leb·suc-suc (suc y) x)
 

@@ -5,13 +5,11 @@ use native.Mathlib.Omega.{arith}
 use native.Mathlib.Nat.{le-antisymm}
 use borrow.Author.Needs.{needs}
 use lib.ListN.{length, length-set}
-use mir.Syntax.{w32}
-use mir.Val.{toZ, ofZ}
-use Rattle.model.specs.Scan.{signBit}
-use Rattle.words.specs.Words.{write}
+use Rattle.words.specs.Words.{word, write}
 use Rattle.words.proofs.Store.{store-none}
-use Rattle.decisions.specs.Bits.{decisionAt}
-use Rattle.decisions.proofs.Folds.{sign-back, store-at-zero}
+use Rattle.decisions.specs.Bits.{decision, decisionAt}
+use Rattle.decisions.proofs.Folds.{store-at-zero}
+use Rattle.decisions.proofs.Signs.{both-back}
 use Rattle.decisions.proofs.decide.Statement.{statement}
 use Rattle.decisions.proofs.decide.Tie as tie
 
@@ -24,11 +22,17 @@ abbrev μ-loop : tie.MeasureT-loop
 loop-holds : tie.Need-loop-holds Inv-loop μ-loop
 loop-holds c = (omega arith, store-none 0 _ _ _, refl)
 
-sum-at-requires : tie.Need-sum-at-requires Inv-loop μ-loop
-sum-at-requires c κs =
-    let at-loop = c .before in
-    let can = at-loop .before .before .pre in
-    (omega (arith, can .values), omega (arith, can .softs), can .sums (at-loop .loop .k) (c .loop-test .taken))
+mul-llr : tie.Need-mul-llr Inv-loop μ-loop
+mul-llr c = search needs
+
+shared-slice-copy-out-llr : tie.Need-shared-slice-copy-out-llr Inv-loop μ-loop
+shared-slice-copy-out-llr c = omega (arith, c .loop-test .taken, c .before .before .before .pre .values)
+
+mul-value : tie.Need-mul-value Inv-loop μ-loop
+mul-value c = search needs
+
+shared-slice-copy-out-value : tie.Need-shared-slice-copy-out-value Inv-loop μ-loop
+shared-slice-copy-out-value c = omega (arith, c .before .loop-test .taken, c .before .before .before .before .pre .softs)
 
 hard-bit-requires : tie.Need-hard-bit-requires Inv-loop μ-loop
 hard-bit-requires c κs = search needs
@@ -44,14 +48,12 @@ loop-less c = search needs
 
 loop-again : tie.Need-loop-again Inv-loop μ-loop
 loop-again c =
-    let added = c .before in
-    let at-loop = added .before .before in
-    let a = at-loop .before .before .args in
-    let k = at-loop .loop .k in
-    let f = decisionAt (a .llrs .now) (a .soft .now) in
-    let sign : signBit (toZ w32 (ofZ w32 (added .sum-at .result))) ≡ f k = sign-back (added .sum-at .result) (added .sum-at .ok) (added .sum-at .ensures) in (
+    let read = c .before in
+    let at-loop = read .before .before .before in
+    let a = at-loop .before .before .args in (
       omega arith,
-      store-at-zero (a .hard .now) (at-loop .loop .hard) k _ f (at-loop .loop .inv .1) (c .hard-bit .ensures ∙ sign),
+      store-at-zero (a .hard .now) (at-loop .loop .hard) (at-loop .loop .k) _ (decisionAt (a .llrs .now) (a .soft .now)) (at-loop .loop .inv .1)
+          (c .hard-bit .ensures ∙ both-back decision (word (a .llrs .now) (at-loop .loop .k)) (word (a .soft .now) (at-loop .loop .k)) (read .before .llr .given) (read .value .given)),
       simp length-set (at-loop .loop .inv .2),
     )
 
@@ -71,7 +73,10 @@ decide-spec =
     Inv-loop
     μ-loop
     loop-holds
-    sum-at-requires
+    mul-llr
+    shared-slice-copy-out-llr
+    mul-value
+    shared-slice-copy-out-value
     hard-bit-requires
     slice-write-hard
     add-k

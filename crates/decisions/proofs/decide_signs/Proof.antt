@@ -6,15 +6,14 @@ use native.Mathlib.Nat.{le-antisymm}
 use borrow.Author.Needs.{needs}
 use lib.Dec.{eqb}
 use lib.ListN.{length, length-set}
-use mir.Syntax.{w32}
-use mir.Val.{toZ, ofZ}
-use Rattle.model.specs.Lists.{tabulate, bit}
-use Rattle.model.specs.Scan.{signBit, undecidedIn}
+use Rattle.model.specs.Lists.{tabulate}
+use Rattle.model.specs.Scan.{undecidedIn}
 use Rattle.model.proofs.Lists.{bit-small}
-use Rattle.words.specs.Words.{write}
+use Rattle.words.specs.Words.{word, write}
 use Rattle.words.proofs.Store.{store-none}
 use Rattle.decisions.specs.Bits.{decisionAt, negativeAt}
-use Rattle.decisions.proofs.Folds.{sign-back, store-at-zero, ties-more, ties-few}
+use Rattle.decisions.proofs.Folds.{store-at-zero, ties-more, ties-few}
+use Rattle.decisions.proofs.Signs.{test-back}
 use Rattle.decisions.proofs.decide_signs.Statement.{statement}
 use Rattle.decisions.proofs.decide_signs.Tie as tie
 
@@ -29,11 +28,17 @@ loop-holds : tie.Need-loop-holds Inv-loop μ-loop
 unfolding undecidedIn tabulate
 loop-holds c = (omega arith, store-none 0 _ _ _, refl, refl)
 
-sum-at-requires : tie.Need-sum-at-requires Inv-loop μ-loop
-sum-at-requires c κs =
-    let at-loop = c .before in
-    let can = at-loop .before .before .pre in
-    (omega (arith, can .values), omega (arith, can .softs), can .sums (at-loop .loop .k) (c .loop-test .taken))
+mul-llr : tie.Need-mul-llr Inv-loop μ-loop
+mul-llr c = search needs
+
+shared-slice-copy-out-llr : tie.Need-shared-slice-copy-out-llr Inv-loop μ-loop
+shared-slice-copy-out-llr c = omega (arith, c .loop-test .taken, c .before .before .before .pre .values)
+
+mul-value : tie.Need-mul-value Inv-loop μ-loop
+mul-value c = search needs
+
+shared-slice-copy-out-value : tie.Need-shared-slice-copy-out-value Inv-loop μ-loop
+shared-slice-copy-out-value c = omega (arith, c .before .loop-test .taken, c .before .before .before .before .pre .softs)
 
 negative-bit-requires : tie.Need-negative-bit-requires Inv-loop μ-loop
 negative-bit-requires c κs = search needs
@@ -46,12 +51,14 @@ tie-bit-requires c κs = search needs
 
 add-ties : tie.Need-add-ties Inv-loop μ-loop
 add-ties c =
-    let at-loop = c .before .before .before .before in
+    let read = c .before .before in
+    let at-loop = read .before .before .before in
     let start = at-loop .before .before in
     let a = start .args in
     let k = at-loop .loop .k in
     let f = decisionAt (a .llrs .now) (a .soft .now) in
-    record { fits = omega (arith, start .pre .few, at-loop .loop .inv .0, at-loop .loop .inv .3, ties-few k f, c .tie-bit .ensures, bit-small (eqb (signBit (toZ w32 (ofZ w32 (c .before .before .sum-at .result)))) 2)) }
+    let tie = c .tie-bit .ensures ∙ test-back 2 (word (a .llrs .now) k) (word (a .soft .now) k) (read .before .llr .given) (read .value .given) in
+    record { fits = omega (arith, start .pre .few, at-loop .loop .inv .0, at-loop .loop .inv .3, ties-few k f, tie, bit-small (eqb (f k) 2)) }
 
 add-k : tie.Need-add-k Inv-loop μ-loop
 add-k c = search needs
@@ -61,17 +68,18 @@ loop-less c = search needs
 
 loop-again : tie.Need-loop-again Inv-loop μ-loop
 loop-again c =
-    let added = c .before .before in
-    let at-loop = added .before .before in
+    let read = c .before .before in
+    let at-loop = read .before .before .before in
     let a = at-loop .before .before .args in
     let k = at-loop .loop .k in
     let f = decisionAt (a .llrs .now) (a .soft .now) in
-    let sign : signBit (toZ w32 (ofZ w32 (added .sum-at .result))) ≡ f k = sign-back (added .sum-at .result) (added .sum-at .ok) (added .sum-at .ensures) in (
+    let llr = word (a .llrs .now) k in
+    let value = word (a .soft .now) k in (
       omega arith,
       store-at-zero (a .hard .now) (at-loop .loop .hard) k _ (negativeAt (a .llrs .now) (a .soft .now)) (at-loop .loop .inv .1)
-          (c .before .negative-bit .ensures ∙ ap (λ (b : ℕ). bit (eqb b 1)) sign),
+          (c .before .negative-bit .ensures ∙ test-back 1 llr value (read .before .llr .given) (read .value .given)),
       simp length-set (at-loop .loop .inv .2),
-      ap₂ _+_ (at-loop .loop .inv .3) (c .tie-bit .ensures ∙ ap (λ (b : ℕ). bit (eqb b 2)) sign) ∙ sym (ties-more k f),
+      ap₂ _+_ (at-loop .loop .inv .3) (c .tie-bit .ensures ∙ test-back 2 llr value (read .before .llr .given) (read .value .given)) ∙ sym (ties-more k f),
     )
 
 same-length : tie.Need-same-length Inv-loop μ-loop
@@ -93,7 +101,10 @@ decide-signs-spec =
     Inv-loop
     μ-loop
     loop-holds
-    sum-at-requires
+    mul-llr
+    shared-slice-copy-out-llr
+    mul-value
+    shared-slice-copy-out-value
     negative-bit-requires
     slice-write-hard
     tie-bit-requires

@@ -1,27 +1,28 @@
 -- `decisions::hard_bit` meets its contract: by the three signs of a sum. Assumes nothing.
-use mathlib.Core.Path.{sym, ap, _∙_}
-use native.Mathlib.Omega.{arith}
-use borrow.Author.Needs.{needs}
+use mathlib.Core.Path.{sym, ap, ap₂, _∙_}
 use lib.Dec.{eqb}
-use lib.IntN.{ℤ}
-use mir.Syntax.{w32}
-use mir.Val.{ofZ}
+use lib.IntN.{ℤ, negℤ}
 use mir.Facts.{toZ-ofZ}
+use borrow.Author.Needs.{needs}
 use Rattle.model.specs.Lists.{bit}
-use Rattle.model.specs.Scan.{signBit}
-use Rattle.words.proofs.Signed.{number-yes}
-use Rattle.decisions.proofs.Folds.{not-tie}
+use Rattle.decisions.specs.Bits.{decision}
+use Rattle.decisions.proofs.Signs.{same-word, tied, not-tied}
 use Rattle.decisions.proofs.hard_bit.Statement.{statement}
 use Rattle.decisions.proofs.hard_bit.Tie as tie
 
 returns : tie.Need-returns
-returns c = let start = c .before in sym (ap signBit (number-yes 0 (omega arith) (start .args .sum) (start .fits .sum) (c .if1 .taken)))
+returns c =
+    let called = c .before in
+    let s = called .before in
+    sym (tied (s .args .llr) (s .fits .llr .sfits) (s .args .soft) (same-word (s .fits .soft) (called .opposite .ok) (c .if1 .taken) ∙ called .opposite .ensures ∙ ap negℤ (toZ-ofZ (s .fits .llr))))
 
 returns-2 : tie.Need-returns-2
 returns-2 c =
     let else = c .before in
-    let start = else .before in
-    c .negative-bit .ensures ∙ ap (λ (z : ℤ). bit (eqb (signBit z) 1)) (toZ-ofZ (start .fits .sum)) ∙ not-tie (start .args .sum) (λ e. else .if1 .left (ap (ofZ w32) e))
+    let called = else .before in
+    let s = called .before in
+    c .negative-bit .ensures ∙ ap₂ (λ (a b : ℤ). bit (eqb (decision a b) 1)) (toZ-ofZ (s .fits .llr)) (toZ-ofZ (s .fits .soft))
+    ∙ not-tied (s .args .llr) (s .fits .llr .sfits) (s .args .soft) (called .opposite .result) (called .opposite .ensures ∙ ap negℤ (toZ-ofZ (s .fits .llr))) (else .if1 .left)
 
 pub hard-bit-spec : {M : Type 1} → statement M
-hard-bit-spec = tie.close (tie.spec (λ c κs. search needs) returns returns-2)
+hard-bit-spec = tie.close (tie.spec (λ c κs. search needs) (λ c κs. search needs) returns returns-2)

@@ -3,7 +3,7 @@ use native.Mathlib.Omega.{arith}
 use borrow.Author.Needs.{needs}
 use Rattle.decisions.specs.Bits.{decisionAt}
 use Rattle.decisions.proofs.Folds.{ties-few}
-use Rattle.decisions.proofs.Reading.{read-undecided, read-bits}
+use Rattle.decisions.proofs.Reading.{signs-bits, read-undecided, read-bits}
 use Rattle.decisions.proofs.read_off.Statement.{statement}
 use Rattle.decisions.proofs.read_off.Tie as tie
 
@@ -13,14 +13,18 @@ decide-signs-requires c κs = c .before .before .before .before .pre .sums
 read-decided-requires : tie.Need-read-decided-requires
 read-decided-requires c κs =
     let signs = c .before .before .before .before .before in
-    let can = signs .before .before .before .before .before .pre .room in
-    record {
-      length-allowed = can .length-allowed;
-      few = can .few;
-      positions = can .positions;
-      bits = omega (arith, can .bits, signs .decide-signs .kept .1 .1 .0);
-      payload-room = can .payload-room;
-    }
+    let start = signs .before .before .before .before .before in
+    let a = start .args in
+    let can = start .pre .room in (
+      record {
+        size = can .size;
+        few = can .few;
+        positions = can .positions;
+        bits = omega (arith, can .bits, signs .decide-signs .kept .1 .1 .0);
+        payload-room = can .payload-room;
+      },
+      signs-bits (a .mask .now) (a .llrs .now) (a .soft .now) (a .hard .now) (a .payload .now) (a .stage) (a .size) (can .bits) (signs .decide-signs .ensures .0) (signs .decide-signs .last .1 .1 .0) (signs .decide-signs .ensures .1),
+    )
 
 returns : tie.Need-returns
 returns c =
@@ -30,7 +34,7 @@ returns c =
     let start = signs .before .before .before .before .before in
     let a = start .args in
     let can = start .pre in
-    read-bits (a .mask .now) (a .llrs .now) (a .soft .now) (a .hard .now) (a .payload .now) (a .size) (can .room .bits) (signs .decide-signs .ensures .0)
+    read-bits (a .mask .now) (a .llrs .now) (a .soft .now) (a .hard .now) (a .payload .now) (a .stage) (a .size) (can .room .bits) (signs .decide-signs .ensures .0)
     (then .if1 .taken) (signs .decide-signs .last .1 .1 .0) (signs .decide-signs .ensures .1)
     (read .read-decided .ensures)
 
@@ -43,7 +47,6 @@ decide-requires c κs =
       values = can .values;
       softs = can .softs;
       bits = omega (arith, can .bits, signs .decide-signs .kept .1 .1 .0);
-      sums = can .sums;
     }
 
 leave-undecided-requires : tie.Need-leave-undecided-requires
@@ -52,8 +55,8 @@ leave-undecided-requires c κs =
     omega (arith, can .count, can .room .payload-room)
 
 -- there are at most N ties
-cast-t22 : tie.Need-cast-t22
-cast-t22 c =
+cast-t23 : tie.Need-cast-t23
+cast-t23 c =
     let signs = c .before .before .before .before .before .before .before .before .before .before .before in
     let start = signs .before .before .before .before .before in
     let a = start .args in
@@ -68,7 +71,7 @@ returns-2 c =
     let start = signs .before .before .before .before .before in
     let a = start .args in
     let can = start .pre in
-    read-undecided (a .mask .now) (a .llrs .now) (a .soft .now) (a .hard .now) (a .payload .now) (a .size) (can .room .bits) (signs .decide-signs .ensures .0)
+    read-undecided (a .mask .now) (a .llrs .now) (a .soft .now) (a .hard .now) (a .payload .now) (a .stage) (a .size) (can .room .bits) (signs .decide-signs .ensures .0)
     (else .if1 .left) (signs .decide-signs .last .1 .1 .0) (decided .decide .last .1 .1 .0) (signs .decide-signs .ensures .1) (decided .decide .ensures)
     (a .k) (can .count) (left .leave-undecided .last .0) (left .leave-undecided .ensures)
 
@@ -82,6 +85,6 @@ read-off-spec =
     returns
     decide-requires
     leave-undecided-requires
-    cast-t22
+    cast-t23
     (λ c. search needs) (λ c. search needs)
     returns-2)

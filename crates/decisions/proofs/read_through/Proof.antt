@@ -15,13 +15,13 @@ returns c =
     let bits = pay .before .before .before .before .before in
     let start = bits .before .before .before .before .before .before in
     let a = start .args in
-    let can = start .pre .0 in
+    let can = start .pre .0 .0 in
     let word = take (a .size) (a .hard .now) in
     let v = bits .decoded-bits .last .1 .0 in
     record {
       payload-is = pay .read-payload .ensures
-          ∙ ap (λ (l : List ℕ). over l (a .payload .now)) (payload-law (a .mask .now) word _ v (a .size) (can .length-allowed) (can .positions) (bits .decoded-bits .ensures));
-      check-is = c .frozen-check .ensures ∙ ap bit (check-law (a .mask .now) word _ v (a .size) (can .length-allowed) (can .positions) (bits .decoded-bits .ensures));
+          ∙ ap (λ (l : List ℕ). over l (a .payload .now)) (payload-law (a .mask .now) word _ v (a .stage) (can .positions ∙ can .size) (bits .decoded-bits .ensures));
+      check-is = c .frozen-check .ensures ∙ ap bit (check-law (a .mask .now) word _ v (a .stage) (can .positions ∙ can .size) (bits .decoded-bits .ensures));
     }
 
 pub read-through-spec : {M : Type 1} → statement M
