@@ -29,12 +29,13 @@ captures =
     ∷ captureOf [] [] 0  -- a trailer alone
     ∷ captureOf [] (3 ∷ 0 ∷ []) 0  -- the mask is tested without frames
     ∷ captureOf [] good 0
+    ∷ captureOf [] (2 ∷ 0 ∷ []) 0  -- frozen to 1
     ∷ captureOf (frame 64 0 1 0) good 1  -- a drain of 64 and no sweeps
     ∷ captureOf (frame 0 0 0 128) good 1  -- no sweeps and an LLR of -32768
     ∷ captureOf (frame 0 1 0 128 ++ frame 64 1 1 0) good 2  -- an LLR of -32768 in the first frame, a drain of 64 in the second
     ∷ captureOf (frame 63 8 1 0) good 1
     ∷ []
 
-pub numbers : map captureNumber captures ≡ 14 ∷ 1 ∷ 2 ∷ 0 ∷ 15 ∷ 4 ∷ 7 ∷ 0 ∷ []
+pub numbers : map captureNumber captures ≡ 14 ∷ 1 ∷ 2 ∷ 0 ∷ 0 ∷ 15 ∷ 4 ∷ 7 ∷ 0 ∷ []
 unfolding captureNumber numberBeforeFrames framesNumber frameNumber framesIn frameAt isCapture signed16 numberOf refusal exponentTo atMost llrsInRange tabulate same
 numbers = refl

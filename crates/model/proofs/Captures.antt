@@ -12,7 +12,7 @@ use lib.Seq.{length-take-le}
 use Rattle.model.specs.Lists.{same, atMost, tabulate}
 use Rattle.model.specs.Encoding.{maxMask, unfrozen}
 use Rattle.model.specs.Plans.{isPlan, oneCut, cutsOfKinds, plannerPlan, Allowed}
-use Rattle.model.specs.Refusals.{refusal, exponent, accepted, row-1, row-2, row-4, row-7, DecodeCall, decodeNumber}
+use Rattle.model.specs.Refusals.{Test, refusal, exponent, accepted, row-1, row-2, row-4, row-7, DecodeCall, decodeNumber}
 use Rattle.model.specs.Captures.{isCapture, maxCapture, trailerSize, signature, trailerAt, inTrailer, firstFrameAt, maskAt, maskSize, maskIn, frameCount, frameSize, CaptureFrame, frameAt, framesIn, maxDrain, frameNumber, framesNumber, numberBeforeFrames, captureNumber, frameCall, Totals, noTotals, withFrame, totalsFrom, totalsOf, sumOver}
 use Rattle.model.proofs.Lists.{T-true, true-T, absurd-bool, and-l, and-r, length-tabulate}
 use Rattle.model.proofs.Refusals.{passes, exponent-power}
@@ -110,11 +110,11 @@ module _ (mask : List ℕ) (sized : exponent (length mask) ≡ 0 → ⊥) (bits 
     word-room = le-refl _;
   })
 
--- the mask's two tests
-pub good-mask : (mask : List ℕ) → refusal (row-1 (length mask) ∷ row-2 mask ∷ []) ≡ 0 → (exponent (length mask) ≡ 0 → ⊥) × T (atMost maxMask mask)
-good-mask mask h =
-    let one = passes 1 (not (eqb (exponent (length mask)) 0)) (row-2 mask ∷ []) (λ z. omega arith) h in
-    let two = passes 2 (atMost maxMask mask) [] (λ z. omega arith) (one .1) in
+-- the mask's two tests, which come before others
+pub good-mask : (mask : List ℕ) (ts : List Test) → refusal (row-1 (length mask) ∷ row-2 mask ∷ ts) ≡ 0 → (exponent (length mask) ≡ 0 → ⊥) × T (atMost maxMask mask)
+good-mask mask ts h =
+    let one = passes 1 (not (eqb (exponent (length mask)) 0)) (row-2 mask ∷ ts) (λ z. omega arith) h in
+    let two = passes 2 (atMost maxMask mask) ts (λ z. omega arith) (one .1) in
     (λ z. absurd-bool _ (one .0) (ap not (eq-eqb (exponent (length mask)) 0 z)), true-T _ (two .0))
 
 -- ---- the frames of an accepted capture
@@ -143,7 +143,7 @@ capture-decodes bytes e j h =
     let own = both-zero (numberBeforeFrames bytes) (framesNumber (framesIn bytes)) e in
     let fits = passes 14 (isCapture bytes) (row-1 (maskSize bytes) ∷ row-2 (maskIn bytes) ∷ []) (λ z. omega arith) (own .0) in
     let long = length-mask bytes (fits .0) in
-    let good = good-mask (maskIn bytes) (ap (λ (N : ℕ). refusal (row-1 N ∷ row-2 (maskIn bytes) ∷ [])) long ∙ fits .1) in
+    let good = good-mask (maskIn bytes) [] (ap (λ (N : ℕ). refusal (row-1 N ∷ row-2 (maskIn bytes) ∷ [])) long ∙ fits .1) in
     let N = maskSize bytes in
     let f = frameAt bytes N (j * frameSize N) in
     let number = each-accepted (frameCount bytes) (λ i. frameAt bytes N (i * frameSize N)) (own .1) j h in

@@ -13,11 +13,11 @@ use lib.Pow.{pow-mono}
 use lib.ListN.{length, getD, List·getD-eq-default}
 use borrow.Author.Tests.{eq-eqb, ne-eqb}
 use Rattle.model.specs.Lists.{total, atMost, bit}
-use Rattle.model.specs.Encoding.{PlainMask, isUnfrozen, unfrozen, place, transform, encode}
+use Rattle.model.specs.Encoding.{PlainMask, isUnfrozen, isKnownOne, unfrozen, place, transform, encode}
 use Rattle.model.specs.Masks.{weight}
 use Rattle.model.specs.Distance.{UnfrozenAt, NonZero, AtLeast, LeastWeight, leastRow, oneAt, single}
-use Rattle.model.proofs.Lists.{length-tabulate, at-most-tabulate, true-T, bit-small, absurd-bool}
-use Rattle.model.proofs.Payload.{length-place, length-payload, place-clean, place-bits, place-again, place-none, place-some, payload-most}
+use Rattle.model.proofs.Lists.{length-tabulate, at-most-at, at-most-tabulate, true-T, bit-small, absurd-bool}
+use Rattle.model.proofs.Payload.{length-place, length-payload, place-clean, place-most, place-bits, place-again, place-some, payload-most}
 use Rattle.model.proofs.RowWeights.{unit-is, unit-weight}
 use Rattle.model.proofs.WordWeights.{support, some-one}
 
@@ -100,6 +100,9 @@ an-open n mask l h = let r = some-open mask h in (r .0, (omega (arith, r .1), r 
 
 -- ---- the least weight
 module _ (n : ℕ) (mask : List ℕ) (M : PlainMask n mask) where
+  none-known : (k : ℕ) → bit (isKnownOne (getD mask k 0)) ≡ 0
+  none-known k = ap bit (ne-eqb (getD mask k 0) 2 (λ e. let h = at-most-at 1 mask k (M .bytes) in omega arith))
+
   -- no non-zero word has fewer ones
   pub word-bound : AtLeast n mask (leastRow n mask)
   unfolding encode
@@ -111,13 +114,13 @@ module _ (n : ℕ) (mask : List ℕ) (M : PlainMask n mask) where
     where
       set-open : (p : ℕ) (payload : List ℕ) (b : Bool) → isUnfrozen (getD mask p 0) ≡ b → 1 ≤ getD (place mask payload) p 0 → isUnfrozen (getD mask p 0) ≡ true
       set-open p payload true e h = e
-      set-open p payload false e h = let z : ⊥ = omega (arith, place-clean mask payload p e) in absurd z
+      set-open p payload false e h = let z : ⊥ = omega (arith, place-clean mask payload p e, none-known p) in absurd z
 
   -- the payload that sets one unfrozen position, and its word
   module _ (i : ℕ) (o : UnfrozenAt n mask i) where
     pub placed : place mask (single n mask i) ≡ oneAt n i
     unfolding single
-    placed = place-again mask (oneAt n i) (length-tabulate (2 ^ n) (λ k. bit (eqb k i)) ∙ sym (M .sized)) clean
+    placed = place-again mask (oneAt n i) (length-tabulate (2 ^ n) (λ k. bit (eqb k i)) ∙ sym (M .sized)) (λ k e. clean k e ∙ sym (none-known k))
       where
         apart : (k : ℕ) → eqb (getD mask k 0) 0 ≡ false → k ≡ i → ⊥
         apart k e d = absurd-bool (eqb (getD mask i 0) 0) (o .1) (subst (λ (j : ℕ). eqb (getD mask j 0) 0 ≡ false) d e)
@@ -139,7 +142,7 @@ module _ (n : ℕ) (mask : List ℕ) (M : PlainMask n mask) where
       where
         go : (b : Bool) → atMost 0 (single n mask i) ≡ b → b ≡ false
         go true e =
-            let z : ⊥ = omega (arith, place-none mask (single n mask i) (true-T (atMost 0 (single n mask i)) e) i, ap (λ (u : List ℕ). getD u i 0) placed, unit-is n i i (o .0), ap bit (eq-eqb i i refl)) in
+            let z : ⊥ = omega (arith, place-most 0 mask (single n mask i) (true-T (atMost 0 (single n mask i)) e) i, none-known i, ap (λ (u : List ℕ). getD u i 0) placed, unit-is n i i (o .0), ap bit (eq-eqb i i refl)) in
             absurd z
         go false e = refl
 

@@ -1,4 +1,5 @@
--- Theorems.antt states what the others lead to; Frames.antt has document 01's nine frames, CaptureExamples.antt small captures, MaskExamples.antt small masks.
+-- Theorems.antt states what the others lead to; Frames.antt has document 01's nine frames and frames with positions frozen to 1, CaptureExamples.antt small
+-- captures, MaskExamples.antt small masks.
 pub mod Lists
 pub mod Algebra
 pub mod Transform
@@ -8,19 +9,26 @@ pub mod Refusals
 pub mod Paths
 pub mod Others
 pub mod Shortcuts
+pub mod TwoRuns
+pub mod Flips
+pub mod Undecided
+pub mod Decisions
+pub mod KnownOnes
+pub mod KnownWords
 pub mod PlannedWalk
+pub mod FlippedWalk
 pub mod Cycles
 pub mod Planner
 pub mod LeafOnly
-pub mod TwoRuns
-pub mod Undecided
 pub mod Signs
 pub mod Bounds
+pub mod Namings
 pub mod Orders
 pub mod FormerCounts
 pub mod CountedCycles
 pub mod Scale
 pub mod Captures
+pub mod Calls
 pub mod Sums
 pub mod RowWeights
 pub mod Ranks

@@ -11,7 +11,7 @@ use lib.ListN.{length, getD, take, drop, replicate, length-drop, List·getD-appe
 use lib.Pow.{pow-lt}
 use lib.Seq.{getD-append-add, getD-drop, take-all}
 use native.Mathlib.Decide.{decLe, decLt}
-use Rattle.model.specs.Lists.{tabulate, total, every, same, atMost, bit}
+use Rattle.model.specs.Lists.{tabulate, total, every, same, atMost, bit, onOnes}
 
 pub double : (t : ℕ) → 2 ^ suc t ≡ 2 ^ t + 2 ^ t
 double t = omega arith
@@ -212,6 +212,59 @@ module _ {A : Type 0} (l : List A) (i : ℕ) where
 
   pub take-left : take (length l - i) (drop i l) ≡ drop i l
   take-left = take-all (length l - i) (drop i l) (omega (arith, length-drop i l))
+
+-- ---- a function applied where a word has a 1
+module _ {A : Type 0} (f : A → A) where
+  pub length-onOnes : (w : List ℕ) (xs : List A) → length (onOnes f w xs) ≡ length xs
+  unfolding onOnes
+  length-onOnes [] xs = refl
+  length-onOnes (b ∷ w) [] = refl
+  length-onOnes (b ∷ w) (x ∷ xs) = ap suc (length-onOnes w xs)
+
+  -- a place of the list, or any place where the function keeps what is read past the end
+  pub onOnes-at : (d : A) (w : List ℕ) (xs : List A) (k : ℕ) → (length xs ≤ k → f d ≡ d)
+      → getD (onOnes f w xs) k d ≡ cond (eqb (getD w k 0) 1) (f (getD xs k d)) (getD xs k d)
+  unfolding onOnes
+  onOnes-at d [] xs k e = refl
+  onOnes-at d (b ∷ w) [] k e = sym (cond-both (λ (x : A). x ≡ d) (eqb (getD (b ∷ w) k 0) 1) (e zero-le) refl)
+  onOnes-at d (b ∷ w) (x ∷ xs) zero e = refl
+  onOnes-at d (b ∷ w) (x ∷ xs) (suc k) e = onOnes-at d w xs k (λ l. e (suc-le-suc l))
+
+  -- a word of zeros changes nothing
+  pub onOnes-none : (n : ℕ) (xs : List A) → onOnes f (replicate n 0) xs ≡ xs
+  unfolding onOnes
+  onOnes-none zero xs = refl
+  onOnes-none (suc n) [] = refl
+  onOnes-none (suc n) (x ∷ xs) = ap {B = List A} (λ ys. x ∷ ys) (onOnes-none n xs)
+
+  -- no word changes a list of a value that the function keeps
+  pub onOnes-kept : (x : A) → f x ≡ x → (w : List ℕ) (n : ℕ) → onOnes f w (replicate n x) ≡ replicate n x
+  unfolding onOnes
+  onOnes-kept x e [] n = refl
+  onOnes-kept x e (b ∷ w) zero = refl
+  onOnes-kept x e (b ∷ w) (suc n) = ap₂ {C = List A} (λ y ys. y ∷ ys) (cond-both (λ (y : A). y ≡ x) (eqb b 1) e refl) (onOnes-kept x e w n)
+
+  pub onOnes-twice : ((x : A) → f (f x) ≡ x) → (w : List ℕ) (xs : List A) → onOnes f w (onOnes f w xs) ≡ xs
+  unfolding onOnes
+  onOnes-twice e [] xs = refl
+  onOnes-twice e (b ∷ w) [] = refl
+  onOnes-twice e (b ∷ w) (x ∷ xs) = ap₂ {C = List A} (λ y ys. y ∷ ys) (go (eqb b 1)) (onOnes-twice e w xs)
+    where
+      go : (c : Bool) → cond c (f (cond c (f x) x)) (cond c (f x) x) ≡ x
+      go true = e x
+      go false = refl
+
+-- before a map and after it
+pub onOnes-map : {A B : Type 0} (f : A → A) (g : B → B) (h : A → B) → ((x : A) → h (f x) ≡ g (h x)) → (w : List ℕ) (xs : List A)
+    → map h (onOnes f w xs) ≡ onOnes g w (map h xs)
+unfolding onOnes
+onOnes-map f g h e [] xs = refl
+onOnes-map f g h e (b ∷ w) [] = refl
+onOnes-map {B = B} f g h e (b ∷ w) (x ∷ xs) = ap₂ {C = List B} (λ y ys. y ∷ ys) (go (eqb b 1)) (onOnes-map f g h e w xs)
+  where
+    go : (c : Bool) → h (cond c (f x) x) ≡ cond c (g (h x)) (h x)
+    go true = e x
+    go false = refl
 
 pub le-of-pow : (a t : ℕ) → 2 ^ a ≤ 2 ^ t → a ≤ t
 le-of-pow a t h = go (decLe a t)

@@ -1,6 +1,6 @@
 -- Messages and cycles do not depend on which of two kinds a node counts as; the counts do. Assumes nothing.
 use mathlib.Core.Path.{_≡_, refl, sym, ap, ap₂, _∙_}
-use mathlib.Core.Bool.{Bool, true, false, cond, not, _&&_}
+use mathlib.Core.Bool.{Bool, true, false, cond, _&&_}
 use mathlib.Core.Option.{Option, none, some}
 use mathlib.Core.List.{List, [], _∷_, _++_, append-nil}
 use Prim.Native.Nat.{ℕ, zero, suc, _+_, _*_, _-_, _^_, _≤_, _<_}
@@ -8,14 +8,15 @@ use native.Mathlib.Omega.{arith}
 use borrow.Author.Tests.{lt-ltb, le-ltb, eqb-true}
 use lib.Dec.{T, eqb, ltb}
 use lib.ListN.{length, getD, take, drop, replicate}
-use Rattle.model.specs.Lists.{bit}
-use Rattle.model.specs.Soft.{Soft}
-use Rattle.model.specs.Encoding.{frozenToZero, unfrozen}
+use Rattle.model.specs.Lists.{onOnes}
+use Rattle.model.specs.Soft.{Soft, negate}
+use Rattle.model.specs.Encoding.{knownWord, frozenToZero, unfrozen}
 use Rattle.model.specs.Scan.{Tree, node, message, left, right, toLeft, toRight, toNode, start, visit, sweeps}
-use Rattle.model.specs.Kinds.{Kind, rate-0, rate-1, REP, SPC, type-I, type-III, type-II, type-IV, order, leastSize, ownCycles, isFixed, pattern, fits, firstOf, kindBy, kindOf, isSome, tag, placeIn, shortcut}
-use Rattle.model.specs.Plans.{isCut, put, putKind, isRate01, cutCycles, walk, walkBy, edgeBy, edgeCycles, cycles, cyclesBy, cutsOfKinds, cutsOfKindsBy, cutAt, cutAtBy, levels, levelsBy, plannerPlan, plannerBy, planned, plannedBy}
+use Rattle.model.specs.Kinds.{Kind, rate-0, rate-1, REP, SPC, type-I, type-III, type-II, type-IV, order, leastSize, ownCycles, isFixed, pattern, fits, firstOf, kindBy, kindOf, isSome, tag, placeIn, shortcut, kindMessage}
+use Rattle.model.specs.Plans.{isCut, put, putKind, isRate01, cutCycles, walk, walkBy, cycles, cyclesBy, cutsOfKinds, cutsOfKindsBy, plannerPlan, plannerBy, planned, plannedBy}
 use Rattle.model.specs.Orders.{former, HasAll}
-use Rattle.model.proofs.Lists.{T-true, absurd-bool, tabulate-ext}
+use Rattle.model.proofs.Lists.{T-true, absurd-bool}
+use Rattle.model.proofs.Namings.{cuts-named, planner-named, cycles-named}
 use Rattle.model.proofs.Shortcuts.{shortcut-visit, fits-facts, firstOf-fits, sound-start}
 
 -- ---- two kinds that fit the same part of a mask
@@ -167,8 +168,11 @@ module _ (kinds : List Kind) (all : HasAll kinds) where
       go (some j) none p q e = absurd (absurd-bool true refl (ap isSome (sym p) ∙ e ∙ ap isSome q))
       go (some j) (some k) p q e = alike j k (firstOf-fits (fits m mask) kinds j p) (firstOf-fits (fits m mask) order k q)
 
-  put-by : (t : ℕ) (mask : List ℕ) (P : Tree) (L : List Soft) → putKind (kindBy kinds (2 ^ t) mask) (2 ^ t) L P ≡ putKind (kindOf (2 ^ t) mask) (2 ^ t) L P
-  put-by t mask P L = by-name (λ o. putKind o (2 ^ t) L P) (2 ^ t) mask (λ j k fj fk. ap (λ (l : List Soft). put l P) (same-message t mask j k fj fk L))
+  put-by : (t : ℕ) (mask : List ℕ) (P : Tree) (L : List Soft) → putKind (kindBy kinds (2 ^ t) mask) t mask L P ≡ putKind (kindOf (2 ^ t) mask) t mask L P
+  unfolding kindMessage
+  put-by t mask P L =
+      let w : List ℕ = knownWord t mask in
+      by-name (λ o. putKind o t mask L P) (2 ^ t) mask (λ j k fj fk. ap (λ (l : List Soft). put (onOnes negate w l) P) (same-message t mask j k fj fk (onOnes negate w L)))
 
   pub walk-by : (plan : List ℕ) (t p : ℕ) (mask : List ℕ) (P : Tree) (L : List Soft) → walkBy (kindBy kinds) plan t p mask P L ≡ walk plan t p mask P L
   unfolding walkBy
@@ -183,45 +187,18 @@ module _ (kinds : List Kind) (all : HasAll kinds) where
   cut-by : (m : ℕ) (mask : List ℕ) → cutCycles (kindBy kinds m mask) ≡ cutCycles (kindOf m mask)
   cut-by m mask = by-name cutCycles m mask (same-cycles m mask)
 
-  edge-by : (plan : List ℕ) (m p : ℕ) (mask : List ℕ) → edgeBy (kindBy kinds) plan m p mask ≡ edgeCycles plan m p mask
-  edge-by plan m p mask = ap (λ (b : Bool). cond (isCut plan p && b) 0 2)
-      (by-name isRate01 m mask (λ j k fj fk. fixed-is j ∙ ap (λ (n : ℕ). eqb n 0) (same-cycles m mask j k fj fk) ∙ sym (fixed-is k)))
+  fixed-by : (m : ℕ) (mask : List ℕ) → isRate01 (kindBy kinds m mask) ≡ isRate01 (kindOf m mask)
+  fixed-by m mask = by-name isRate01 m mask (λ j k fj fk. fixed-is j ∙ ap (λ (n : ℕ). eqb n 0) (same-cycles m mask j k fj fk) ∙ sym (fixed-is k))
 
   pub cycles-by : (plan : List ℕ) (t p : ℕ) (mask : List ℕ) → cyclesBy (kindBy kinds) plan t p mask ≡ cycles plan t p mask
-  unfolding cyclesBy
-  cycles-by plan zero p mask = cut-by 1 mask
-  cycles-by plan (suc t) p mask =
-      let a : List ℕ = take (2 ^ t) mask in
-      let b : List ℕ = drop (2 ^ t) mask in
-      let edges = ap₂ (λ (x y : ℕ). x + y) (edge-by plan (2 ^ t) (2 * p) a) (edge-by plan (2 ^ t) (2 * p + 1) b) in
-      let below = ap₂ (λ (x y : ℕ). x + y) (cycles-by plan t (2 * p) a) (cycles-by plan t (2 * p + 1) b) in
-      ap₂ (λ (x y : ℕ). cond (isCut plan p) x y) (cut-by (2 ^ suc t) mask) (ap₂ (λ (x y : ℕ). 2 + x + y) edges below)
+  cycles-by = cycles-named (kindBy kinds) kindOf (λ mask. mask) (λ n mask. refl) (λ n mask. refl) cut-by fixed-by
 
   -- which plans are allowed, and which one the planner makes: whether a node is of a kind is all that they look at
   pub cuts-by : (plan : List ℕ) (t p : ℕ) (mask : List ℕ) → cutsOfKindsBy (kindBy kinds) plan t p mask ≡ cutsOfKinds plan t p mask
-  unfolding cutsOfKindsBy
-  cuts-by plan zero p mask = ap (λ (b : Bool). cond (isCut plan p) b true) (some-by 1 mask)
-  cuts-by plan (suc t) p mask =
-      ap₂ (λ (x y : Bool). x && y) (ap (λ (b : Bool). cond (isCut plan p) b true) (some-by (2 ^ suc t) mask))
-      (ap₂ (λ (x y : Bool). x && y) (cuts-by plan t (2 * p) (take (2 ^ t) mask)) (cuts-by plan t (2 * p + 1) (drop (2 ^ t) mask)))
-
-  cut-at-by : (t d i : ℕ) (mask : List ℕ) → cutAtBy (kindBy kinds) t d i mask ≡ cutAt t d i mask
-  unfolding cutAtBy
-  cut-at-by zero zero i mask = some-by 1 mask
-  cut-at-by (suc t) zero i mask = some-by (2 ^ suc t) mask
-  cut-at-by zero (suc d) i mask = refl
-  cut-at-by (suc t) (suc d) i mask =
-      ap₂ (λ (x y : Bool). not x && y) (some-by (2 ^ suc t) mask)
-      (ap₂ (λ (x y : Bool). cond (ltb i (2 ^ d)) x y) (cut-at-by t d i (take (2 ^ t) mask)) (cut-at-by t d (i - 2 ^ d) (drop (2 ^ t) mask)))
-
-  levels-by : (n : ℕ) (mask : List ℕ) (d : ℕ) → levelsBy (kindBy kinds) n mask d ≡ levels n mask d
-  unfolding levelsBy
-  levels-by n mask zero = ap (λ (b : Bool). 0 ∷ bit b ∷ []) (cut-at-by n 0 0 mask)
-  levels-by n mask (suc d) = ap₂ (λ (x y : List ℕ). x ++ y) (levels-by n mask d) (tabulate-ext (2 ^ suc d) _ _ (λ i lt. ap bit (cut-at-by n (suc d) i mask)))
+  cuts-by = cuts-named (kindBy kinds) kindOf (λ mask. mask) (λ n mask. refl) (λ n mask. refl) some-by
 
   pub planner-by : (n : ℕ) (mask : List ℕ) → plannerBy (kindBy kinds) n mask ≡ plannerPlan n mask
-  unfolding plannerBy
-  planner-by n mask = levels-by n mask n
+  planner-by = planner-named (kindBy kinds) kindOf (λ mask. mask) (λ n mask. refl) (λ n mask. refl) some-by
 
   -- k sweeps along a plan
   sweeps-by : (plan : List ℕ) (n : ℕ) (mask : List ℕ) (L : List Soft) (k : ℕ) (P : Tree)

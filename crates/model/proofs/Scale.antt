@@ -7,12 +7,12 @@ use native.Mathlib.Nat.{mul-zero, mul-pos, mul-le-mul-left, min-eq-left, min-eq-
 use native.Mathlib.Omega.{arith}
 use borrow.Author.Tests.{ltb-true, ltb-false}
 use lib.Dec.{ltb}
-use lib.IntN.{ℤ, pos, negsuc, negℤ, natAbs, _+ℤ_, _*ℤ_, +ℤ-assoc, +ℤ-comm, zero-*ℤ, sucℤ-*ℤ}
+use lib.IntN.{ℤ, pos, negsuc, negℤ, natAbs, _+ℤ_, _*ℤ_, negℤ-negℤ, +ℤ-assoc, +ℤ-comm, zero-*ℤ, sucℤ-*ℤ}
 use lib.ListN.{getD, take, drop, List·getD-map}
 use Rattle.model.specs.Lists.{tabulate}
-use Rattle.model.specs.Soft.{Soft, finite, certain, softZero, _at_, negative, signed, differ, boxℤ, box, plus}
-use Rattle.model.specs.Encoding.{isUnfrozen}
-use Rattle.model.specs.Scan.{Tree, leaf, node, message, left, right, leafValue, start, toLeft, toRight, toNode, visit, sweeps, scan, hardBit, hardWord, undecidedIn, decidedPayload, decidedCheck, decided, decodeScan}
+use Rattle.model.specs.Soft.{Soft, finite, certain, certainOne, Finite, softZero, _at_, negative, signed, differ, negate, boxℤ, box, plus}
+use Rattle.model.specs.Encoding.{isUnfrozen, isKnownOne}
+use Rattle.model.specs.Scan.{Tree, leaf, node, message, left, right, leafValue, start, FiniteAll, toLeft, toRight, toNode, visit, sweeps, scan, hardBit, hardWord, undecidedIn, decidedPayload, decidedCheck, decided, decodeScan}
 use Rattle.model.specs.Scale.{scaled, scaledAll}
 use Rattle.model.proofs.Lists.{tabulate-ext}
 
@@ -52,6 +52,11 @@ times-box c h a b =
     rw (times-negative c h a, times-negative c h b, times-size c a, times-size c b, times-min c (natAbs a) (natAbs b))
     (times-signed c (differ (negative a) (negative b)) (min (natAbs a) (natAbs b)))
 
+times-minus : (c : ℕ) (a : ℤ) → negℤ (pos c *ℤ a) ≡ pos c *ℤ negℤ a
+times-minus c (pos zero) = rw (mul-zero c)
+times-minus c (pos (suc n)) = refl
+times-minus c (negsuc n) = negℤ-negℤ (pos (c * suc n))
+
 four : (a b x y : ℤ) → a +ℤ b +ℤ (x +ℤ y) ≡ a +ℤ x +ℤ (b +ℤ y)
 four a b x y =
     +ℤ-assoc a b (x +ℤ y)
@@ -68,16 +73,27 @@ times-sum (suc c) a b =
 
 -- ---- soft values, lists and trees
 module _ (c : ℕ) (above : 0 < c) where
+  scaled-negate : (a : Soft) → negate (scaled c a) ≡ scaled c (negate a)
+  scaled-negate certain = refl
+  scaled-negate certainOne = refl
+  scaled-negate (finite a) = ap finite (times-minus c a)
+
   scaled-box : (a b : Soft) → box (scaled c a) (scaled c b) ≡ scaled c (box a b)
   unfolding box
   scaled-box certain b = refl
+  scaled-box certainOne b = scaled-negate b
   scaled-box (finite a) certain = refl
+  scaled-box (finite a) certainOne = scaled-negate (finite a)
   scaled-box (finite a) (finite b) = ap finite (times-box c above a b)
 
   scaled-plus : (a b : Soft) → plus (scaled c a) (scaled c b) ≡ scaled c (plus a b)
   unfolding plus
   scaled-plus certain b = refl
+  scaled-plus certainOne certain = refl
+  scaled-plus certainOne certainOne = refl
+  scaled-plus certainOne (finite b) = refl
   scaled-plus (finite a) certain = refl
+  scaled-plus (finite a) certainOne = refl
   scaled-plus (finite a) (finite b) = ap finite (times-sum c a b)
 
   scaled-zero : scaled c softZero ≡ softZero
@@ -85,6 +101,14 @@ module _ (c : ℕ) (above : 0 < c) where
 
   scaled-at : (L : List Soft) (k : ℕ) → scaledAll c L at k ≡ scaled c (L at k)
   scaled-at L k = ap (λ (d : Soft). getD (scaledAll c L) k d) (sym scaled-zero) ∙ List·getD-map (scaled c) L k softZero
+
+  pub scaled-finite : (n : ℕ) (L : List Soft) → FiniteAll n L → FiniteAll n (scaledAll c L)
+  scaled-finite n L F k h = rw (scaled-at L k) (each (L at k) (F k h))
+    where
+      each : (a : Soft) → Finite a → Finite (scaled c a)
+      each certain f = f
+      each certainOne f = f
+      each (finite a) f = f
 
   scaled-table : (n : ℕ) (f : ℕ → Soft) → scaledAll c (tabulate n f) ≡ tabulate n (λ k. scaled c (f k))
   unfolding tabulate
@@ -159,9 +183,13 @@ module _ (c : ℕ) (above : 0 < c) where
   unfolding start scaledTree leafValue
   on-start zero mask = ap (λ (s : Soft). leaf (s ∷ [])) (go (isUnfrozen (getD mask 0 0)))
     where
-      go : (b : Bool) → scaled c (cond b softZero certain) ≡ cond b softZero certain
+      known : (b : Bool) → scaled c (cond b certainOne certain) ≡ cond b certainOne certain
+      known true = refl
+      known false = refl
+
+      go : (b : Bool) → scaled c (cond b softZero (cond (isKnownOne (getD mask 0 0)) certainOne certain)) ≡ cond b softZero (cond (isKnownOne (getD mask 0 0)) certainOne certain)
       go true = scaled-zero
-      go false = refl
+      go false = known (isKnownOne (getD mask 0 0))
   on-start (suc t) mask =
       ap₂ (λ (x y : Tree). node (scaledAll c (tabulate (2 ^ suc t) (λ k. softZero))) x y) (on-start t (take (2 ^ t) mask)) (on-start t (drop (2 ^ t) mask))
       ∙ ap (λ (m : List Soft). node m (start t (take (2 ^ t) mask)) (start t (drop (2 ^ t) mask)))
@@ -189,6 +217,7 @@ module _ (c : ℕ) (above : 0 < c) where
 
   bit-scaled : (s : Soft) → hardBit (scaled c s) ≡ hardBit s
   bit-scaled certain = refl
+  bit-scaled certainOne = refl
   bit-scaled (finite (pos zero)) = ap (λ (n : ℕ). hardBit (finite (pos n))) (mul-zero c)
   bit-scaled (finite (pos (suc n))) = hard-positive (c * suc n) (mul-pos above (omega arith))
   bit-scaled (finite (negsuc n)) = hard-negative (c * suc n) (mul-pos above (omega arith))

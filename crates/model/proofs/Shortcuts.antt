@@ -1,4 +1,4 @@
--- Each kind's message is SCAN's. Assumes nothing.
+-- Each kind's message is SCAN's, where every frozen position is frozen to 0; KnownOnes.antt goes on from there. Assumes nothing.
 use mathlib.Core.Path.{_≡_, refl, sym, _∙_, ap, ap₂, subst}
 use mathlib.Core.Bool.{Bool, true, false}
 use mathlib.Core.Option.{some, Option·some-injective}
@@ -17,7 +17,6 @@ use Rattle.model.specs.Scan.{Tree, message, left, right, leafValue, star
 use Rattle.model.specs.Kinds.{Kind, rate-0, rate-1, REP, SPC, type-I, type-III, type-II, type-IV, order, leastSize, butLast, onlyFirst, pattern, fits, firstOf, kindOf, others, typeII, typeIV, shortcut}
 use Rattle.model.proofs.Lists.{double, getD-tabulate, tabulate-ext, tabulate-halves, and-l, and-r, same→eq, le-of-pow}
 use Rattle.model.proofs.Algebra.{box-certain, box-zero, box-zero-r, box-comm, plus-zero, plus-zero-r, plus-certain, plus-comm, box-monoid, plus-monoid}
-use Rattle.model.proofs.FrozenPositions.{toZero-at, toZero-l, toZero-r, toZero-unfrozen, toZero-none}
 use Rattle.model.proofs.Others.{spread, Local, spread-left, spread-right, spread-base, others-local}
 
 -- ---- halves of the patterns
@@ -348,18 +347,3 @@ firstOf-fits f (x ∷ ks) k e = go (f x) refl (firstOf-fits f ks k)
 pub kind-facts : (m : ℕ) (mask : List ℕ) (k : Kind) → kindOf m mask ≡ some k → (leastSize k ≤ m) × (frozenToZero mask ≡ pattern k m)
 unfolding kindOf
 kind-facts m mask k e = fits-facts m mask k (firstOf-fits (fits m mask) order k e)
-
--- `Sound` looks at frozen or not only
-sound-plain : (t : ℕ) (mask : List ℕ) (T : Tree) → Sound t mask T → Sound t (frozenToZero mask) T
-unfolding leafValue
-sound-plain zero mask T S = S ∙ sym (rw (toZero-at mask 0, toZero-unfrozen (getD mask 0 0)))
-sound-plain (suc t) mask T S = (
-  λ e. S .0 (toZero-none mask (2 ^ suc t) e),
-  rw (toZero-l (2 ^ t) mask) (sound-plain t (take (2 ^ t) mask) (left T) (S .1)),
-  rw (toZero-r (2 ^ t) mask) (sound-plain t (drop (2 ^ t) mask) (right T) (S .2)),
-)
-
-pub kind-visit : (t : ℕ) (mask : List ℕ) (k : Kind) (T : Tree) (L : List Soft) → kindOf (2 ^ t) mask ≡ some k → Sound t mask T → message (visit t T L) ≡ shortcut k (2 ^ t) L
-kind-visit t mask k T L e S =
-    let f : (leastSize k ≤ 2 ^ t) × (frozenToZero mask ≡ pattern k (2 ^ t)) = kind-facts (2 ^ t) mask k e in
-    shortcut-visit k t (frozenToZero mask) T L (sound-plain t mask T S) (f .0) (f .1)

@@ -2,32 +2,38 @@
 -- The other files of this folder lead to them. Assumes nothing.
 use mathlib.Core.Path.{_≡_, refl, sym, ap, _∙_, subst}
 use mathlib.Core.Logic.{_⊎_, inl, inr}
-use mathlib.Core.Bool.{true, false, not, _&&_}
+use mathlib.Core.Bool.{true, false, cond, not, _&&_}
 use mathlib.Core.List.{List, [], _∷_, map}
 use Prim.Native.Nat.{ℕ, suc, _*_, _-_, _^_, _<_, _≤_}
 use native.Mathlib.Nat.{le-trans}
 use native.Mathlib.Omega.{arith}
 use lib.Count.{ones}
 use lib.Dec.{T}
-use lib.IntN.{ℤ}
+use lib.IntN.{ℤ, negℤ}
 use lib.ListN.{length, getD}
 use lib.Pow.{pow-mono}
-use Rattle.model.specs.Lists.{atMost}
-use Rattle.model.specs.Soft.{Soft, finite, softZero, _at_, plus, maxLlr}
-use Rattle.model.specs.Encoding.{PlainMask, Mask, isUnfrozen, unfrozen, place, encode}
-use Rattle.model.specs.Scan.{Tree, message, start, visit, sweeps, scan, hardBit, decided, decodeScan, SignsOf}
+use Rattle.model.specs.Lists.{atMost, onOnes}
+use Rattle.model.specs.Soft.{Soft, finite, softZero, _at_, negate, plus, maxLlr, wordOf}
+use Rattle.model.specs.Encoding.{PlainMask, Mask, maxMask, isUnfrozen, isKnownOne, knownBits, knownWord, frozenToZero, unfrozen, place, encode}
+use Rattle.model.specs.Scan.{Tree, message, start, FiniteAll, visit, sweeps, scan, hardBit, decided, decodeScan, flipBit, flipTree, flipDecoded, SignsOf}
 use Rattle.model.specs.Plans.{oneCut, cutsOfKinds, wellCut, Allowed, leafOnly, walk, walkBy, planned, Agree, Stays, cycles, cyclesBy, plannerPlan, cutsBelow, counts, plannedBy, cutsOfKindsBy, plannerBy}
-use Rattle.model.specs.Kinds.{Kind, order, fits, kindBy, ownCycles, shortcut}
+use Rattle.model.specs.Kinds.{Kind, order, fits, kindBy, kindOf, ownCycles, kindMessage}
 use Rattle.model.specs.Orders.{former, HasAll, countsBy, cutsWith, moved}
 use Rattle.model.specs.Scale.{scaledAll}
-use Rattle.model.specs.Refusals.{refusal, row-1, row-2, row-4, row-7, DecodeCall, exponent, decodeNumber, decodeAnswer, decodeCheck, decodeCycles}
+use Rattle.model.specs.Refusals.{refusal, row-1, row-2, row-4, row-7, DecodeCall, withLlrs, withZeros, exponent, decodeNumber, decodeAnswer, decodeCheck, decodeCycles}
 use Rattle.model.specs.Captures.{isCapture, maskSize, maskIn, frameSize, frameCount, CaptureFrame, frameAt, frameNumber, captureNumber, frameCall, differing, withFrame, totalsOf, sumOver}
 use Rattle.model.specs.Masks.{weight, matrixRow, ranksBefore, weightMask, InRankOrder}
 use Rattle.model.specs.Distance.{UnfrozenAt, AtLeast, LeastWeight, leastRow, oneAt, single, hasDistance, noMask}
-use Rattle.model.specs.Bounds.{SmallAll, Under, AllUnder, InRange, limit, cap}
+use Rattle.model.specs.Bounds.{SmallAll, Under, Within, Held, AllUnder, InRange, SumsMeet, limit, cap}
+use Rattle.model.proofs.FrozenPositions.{kinds-alike, allowed-alike, allowed-back, planner-alike, cycles-alike, counts-alike}
 use Rattle.model.proofs.Shortcuts.{sound-start}
+use Rattle.model.proofs.Flips.{meet-visit, llrs-finite, flipped-finite, flip-llrs, flip-words}
+use Rattle.model.proofs.KnownOnes.{toZero-replaces, start-flip, soft-known, answer-known}
+use Rattle.model.proofs.KnownWords.{encode-known}
+use Rattle.model.proofs.FlippedWalk.{sweeps-flip, agree-flip}
+use Rattle.model.proofs.Calls.{plain-number, plain-answer, plain-cycles}
 use Rattle.model.proofs.Paths.{wellCut-test, allowed-cuts}
-use Rattle.model.proofs.PlannedWalk.{agree-message, agree-same, sweeps-agree, sweeps-stay}
+use Rattle.model.proofs.PlannedWalk.{agree-message, agree-same, agree-both, sweeps-agree, sweeps-stay}
 use Rattle.model.proofs.Cycles.{cycles-bound}
 use Rattle.model.proofs.Planner.{Same, planner-allowed, planner-chosen, cycles-least, same-or-more, same-list}
 use Rattle.model.proofs.LeafOnly.{leafOnly-allowed, leafOnly-cycles}
@@ -35,7 +41,7 @@ use Rattle.model.proofs.Signs.{signs-hard, signs-sums, signs-decided, s
 use Rattle.model.proofs.Undecided.{two-exactly}
 use Rattle.model.proofs.Orders.{same-message, same-cycles, cuts-by, planner-by, walk-by, planned-by, cycles-by, has-order, has-former}
 use Rattle.model.proofs.FormerCounts.{counts-moved, moved-most}
-use Rattle.model.proofs.Scale.{scan-scaled, decode-scaled}
+use Rattle.model.proofs.Scale.{scaled-finite, scan-scaled, decode-scaled}
 use Rattle.model.proofs.Captures.{layout-refused, drain-over, good-mask, frame-left, capture-decodes, sums-are}
 use Rattle.model.proofs.RowWeights.{row-weight}
 use Rattle.model.proofs.RankOrder.{weight-made, weight-unfrozen, no-fewer-ones}
@@ -43,28 +49,28 @@ use Rattle.model.proofs.RankTable.{entry-once, entry-order}
 use Rattle.model.proofs.LeastWeight.{an-open, least-le, least-at, placed, single-weight, word-bound, least-weight}
 use Rattle.model.proofs.LargestWeight.{weight-best, row-atleast}
 use Rattle.model.proofs.Distance.{has-says, says-has, no-mask-says, says-no-mask, none-exact}
-use Rattle.model.proofs.Bounds.{within-sweeps, within-start, within-all, within-held, held-sweeps, in-range, soft-under, under-plus, under-mono, cap-limit}
+use Rattle.model.proofs.Bounds.{ones-any, ones-none, within-sweeps, within-start, within-all, within-held, held-sweeps, in-range, soft-under, under-plus, under-mono, cap-limit}
 
--- ---- 1. Every accepted decode, whichever allowed plan it is given, equals SCAN walked to the last leaf.
+-- ---- 1. Every accepted decode, whichever allowed plan it is given, equals SCAN walked to the last leaf. LLRs are finite.
 
 -- From any stored state that agrees with the start at and above the cuts, whatever it holds below them, the walk agrees with SCAN there after k sweeps.
-pub plan-agrees : (n : ℕ) (plan mask : List ℕ) → Allowed n plan mask → (L : List Soft) (k : ℕ) (P : Tree) → Agree plan n 1 (start n mask) P
+pub plan-agrees : (n : ℕ) (plan mask : List ℕ) → Allowed n plan mask → (L : List Soft) → FiniteAll n L → (k : ℕ) (P : Tree) → Agree plan n 1 (start n mask) P
     → Agree plan n 1 (sweeps (λ T. visit n T L) k (start n mask)) (sweeps (λ T. walk plan n 1 mask T L) k P)
-plan-agrees n plan mask W L k P A = sweeps-agree plan n mask L (allowed-cuts n plan mask W) k (start n mask) P (sound-start n mask) A
+plan-agrees n plan mask W L F k P A = sweeps-agree plan n mask L F (allowed-cuts n plan mask W) k (start n mask) P (sound-start n mask) A
 
-pub soft-from : (n : ℕ) (plan mask : List ℕ) → Allowed n plan mask → (L : List Soft) (k : ℕ) (P : Tree) → Agree plan n 1 (start n mask) P
+pub soft-from : (n : ℕ) (plan mask : List ℕ) → Allowed n plan mask → (L : List Soft) → FiniteAll n L → (k : ℕ) (P : Tree) → Agree plan n 1 (start n mask) P
     → message (sweeps (λ T. walk plan n 1 mask T L) k P) ≡ scan n mask L k
 unfolding scan
-soft-from n plan mask W L k P A =
-    sym (agree-message plan n 1 (sweeps (λ T. visit n T L) k (start n mask)) (sweeps (λ T. walk plan n 1 mask T L) k P) (plan-agrees n plan mask W L k P A))
+soft-from n plan mask W L F k P A =
+    sym (agree-message plan n 1 (sweeps (λ T. visit n T L) k (start n mask)) (sweeps (λ T. walk plan n 1 mask T L) k P) (plan-agrees n plan mask W L F k P A))
 
-pub soft-same : (n : ℕ) (plan mask : List ℕ) → Allowed n plan mask → (L : List Soft) (k : ℕ) → planned plan n mask L k ≡ scan n mask L k
+pub soft-same : (n : ℕ) (plan mask : List ℕ) → Allowed n plan mask → (L : List Soft) → FiniteAll n L → (k : ℕ) → planned plan n mask L k ≡ scan n mask L k
 unfolding plannedBy
-soft-same n plan mask W L k = soft-from n plan mask W L k (start n mask) (agree-same plan n 1 (start n mask))
+soft-same n plan mask W L F k = soft-from n plan mask W L F k (start n mask) (agree-same plan n 1 (start n mask))
 
-pub decode-same : (n : ℕ) (plan mask : List ℕ) → Allowed n plan mask → (L : List Soft) (k : ℕ) → decided n mask L (planned plan n mask L k) ≡ decodeScan n mask L k
+pub decode-same : (n : ℕ) (plan mask : List ℕ) → Allowed n plan mask → (L : List Soft) → FiniteAll n L → (k : ℕ) → decided n mask L (planned plan n mask L k) ≡ decodeScan n mask L k
 unfolding decodeScan
-decode-same n plan mask W L k = ap (decided n mask L) (soft-same n plan mask W L k)
+decode-same n plan mask W L F k = ap (decided n mask L) (soft-same n plan mask W L F k)
 
 -- What is stored below a cut stays, whatever the plan.
 pub below-stays : (n : ℕ) (plan mask : List ℕ) (L : List Soft) (k : ℕ) (P : Tree) → Stays plan n 1 P (sweeps (λ T. walk plan n 1 mask T L) k P)
@@ -132,23 +138,39 @@ signs-none-undecided = signs-decided
 room : (n : ℕ) → n ≤ 10 → maxLlr * 2 ^ n ≤ limit
 room n h = let m : 2 ^ n ≤ 1024 = pow-mono h in omega arith
 
--- Every message of SCAN is certain or within maxLlr × 1024.
+-- Every message of SCAN is ∞, -∞ or within maxLlr × 1024.
 pub messages-bound : (n : ℕ) → n ≤ 10 → (mask : List ℕ) (L : List Soft) → SmallAll n maxLlr L → (k : ℕ) → AllUnder limit n (sweeps (λ T. visit n T L) k (start n mask))
 messages-bound n h mask L S k =
-    within-all n maxLlr (sweeps (λ T. visit n T L) k (start n mask)) (room n h) (within-sweeps n maxLlr L S k (start n mask) (within-start n maxLlr mask))
+    within-all n maxLlr (sweeps (λ T. visit n T L) k (start n mask)) (room n h) (within-sweeps true n maxLlr L S k (start n mask) (within-start true n maxLlr mask (ones-any n mask)))
 
--- In each sweep along an allowed plan no incoming list has a certain value, and every incoming value and every sum is within maxLlr × 1024.
+-- With no position frozen to 1, -∞ never arises: not in SCAN, and along an allowed plan not at the cuts and above them, whatever lies below.
+pub plain-messages : (n : ℕ) (mask : List ℕ) (L : List Soft) → SmallAll n maxLlr L → (k : ℕ)
+    → Within false n maxLlr (sweeps (λ T. visit n T L) k (start n (frozenToZero mask)))
+plain-messages n mask L S k =
+    within-sweeps false n maxLlr L S k (start n (frozenToZero mask)) (within-start false n maxLlr (frozenToZero mask) (ones-none n mask))
+
+pub plain-held : (n : ℕ) (plan mask : List ℕ) → Allowed n plan mask → (L : List Soft) → SmallAll n maxLlr L → (k : ℕ) (P : Tree) → Held false plan n 1 maxLlr P
+    → Held false plan n 1 maxLlr (sweeps (λ T. walk plan n 1 (frozenToZero mask) T L) k P)
+plain-held n plan mask A L S k P H =
+    held-sweeps false plan n (frozenToZero mask) maxLlr L (ones-none n mask) (allowed-cuts n plan (frozenToZero mask) (allowed-alike n plan mask A)) S k P H
+
+-- In each sweep along an allowed plan every incoming list is finite, and every incoming value and every sum is within maxLlr × 1024.
 pub sums-bound : (n : ℕ) → n ≤ 10 → (plan mask : List ℕ) → Allowed n plan mask → (L : List Soft) → SmallAll n maxLlr L → (k : ℕ)
     → InRange plan n 1 mask (sweeps (λ T. walk plan n 1 mask T L) k (start n mask)) L
 sums-bound n h plan mask A L S k =
     in-range plan n 1 mask maxLlr (sweeps (λ T. walk plan n 1 mask T L) k (start n mask)) L (room n h) (allowed-cuts n plan mask A) S
-    (held-sweeps plan n mask maxLlr L (allowed-cuts n plan mask A) S k (start n mask) (within-held plan n 1 maxLlr (start n mask) (within-start n maxLlr mask)))
+    (held-sweeps true plan n mask maxLlr L (ones-any n mask) (allowed-cuts n plan mask A) S k (start n mask)
+    (within-held true plan n 1 maxLlr (start n mask) (within-start true n maxLlr mask (ones-any n mask))))
 
 -- So is LLR plus soft.
-pub decision-bound : (n : ℕ) → n ≤ 10 → (mask : List ℕ) (L : List Soft) → SmallAll n maxLlr L → (k j : ℕ) → j < 2 ^ n → Under limit (plus (L at j) (scan n mask L k at j))
+pub decision-bound : (n : ℕ) → n ≤ 10 → (mask : List ℕ) (L : List Soft) → SmallAll n maxLlr L → (k j : ℕ) → j < 2 ^ n → Under true limit (plus (L at j) (scan n mask L k at j))
 decision-bound n h mask L S k j l =
-    under-mono (plus (L at j) (scan n mask L k at j)) (cap-limit n h)
-    (under-plus maxLlr (cap n maxLlr) (L at j) (scan n mask L k at j) (S j l) (soft-under n mask L S k j l))
+    under-mono true (plus (L at j) (scan n mask L k at j)) (cap-limit n h)
+    (under-plus true maxLlr (cap n maxLlr) (L at j) (scan n mask L k at j) (S j l) (soft-under true n mask (ones-any n mask) L S k j l))
+
+-- In each visit, and from any state, ∞ and -∞ are never added: of the two values of every sum one is finite. So it is for LLR plus soft, the LLR being finite.
+pub sums-meet : (n : ℕ) (L : List Soft) → FiniteAll n L → (T : Tree) → SumsMeet n T L
+sums-meet n L F T = meet-visit n T L F
 
 -- The limit, and twice the limit, fit in 32 bits with the sign, below the mark.
 pub limit-fits : 2 * limit < 2147483647
@@ -158,8 +180,12 @@ limit-fits = omega arith
 
 -- Where two kinds fit the same part of a mask, their messages are equal for every incoming list, and so are their cycles.
 pub names-alike : (t : ℕ) (mask : List ℕ) (j k : Kind) → T (fits (2 ^ t) mask j) → T (fits (2 ^ t) mask k)
-    → ((L : List Soft) → shortcut j (2 ^ t) L ≡ shortcut k (2 ^ t) L) × (ownCycles j ≡ ownCycles k)
-names-alike t mask j k fj fk = (same-message t mask j k fj fk, same-cycles (2 ^ t) mask j k fj fk)
+    → ((L : List Soft) → kindMessage j t mask L ≡ kindMessage k t mask L) × (ownCycles j ≡ ownCycles k)
+unfolding kindMessage
+names-alike t mask j k fj fk = (
+  λ L. ap (onOnes negate (knownWord t mask)) (same-message t mask j k fj fk (onOnes negate (knownWord t mask) L)),
+  same-cycles (2 ^ t) mask j k fj fk,
+)
 
 -- Which plans are allowed, which one the planner makes, the soft values along a plan and its cycles are the same in every order that has all kinds.
 module _ (kinds : List Kind) (all : HasAll kinds) where
@@ -193,15 +219,16 @@ counts-from-former n plan mask sized = (counts-moved plan n mask sized, moved-mo
 
 -- ---- 6. The scale of the LLRs is the caller's choice, for every c above 0.
 module _ (c : ℕ) (above : 0 < c) where
-  -- SCAN of c times the LLRs has c times the soft values, certain staying certain, and the same hard bits, payload, frozen check and number of undecided bits.
+  -- SCAN of c times the LLRs has c times the soft values, ∞ and -∞ staying, and the same hard bits, payload, frozen check and number of undecided bits.
   pub decode-on-scale : (n : ℕ) (mask : List ℕ) (L : List Soft) (k : ℕ) → let D = decodeScan n mask L k in
       decodeScan n mask (scaledAll c L) k ≡ record { soft = scaledAll c (D .soft); hard = D .hard; payload = D .payload; check = D .check; undecided = D .undecided }
   decode-on-scale = decode-scaled c above
 
-  -- So it is along every allowed plan.
-  pub soft-on-scale : (n : ℕ) (plan mask : List ℕ) → Allowed n plan mask → (L : List Soft) (k : ℕ) → planned plan n mask (scaledAll c L) k ≡ scaledAll c (planned plan n mask L k)
-  soft-on-scale n plan mask A L k =
-      soft-same n plan mask A (scaledAll c L) k ∙ scan-scaled c above n mask L k ∙ ap (scaledAll c) (sym (soft-same n plan mask A L k))
+  -- So it is along every allowed plan, for finite LLRs.
+  pub soft-on-scale : (n : ℕ) (plan mask : List ℕ) → Allowed n plan mask → (L : List Soft) → FiniteAll n L → (k : ℕ)
+      → planned plan n mask (scaledAll c L) k ≡ scaledAll c (planned plan n mask L k)
+  soft-on-scale n plan mask A L F k =
+      soft-same n plan mask A (scaledAll c L) (scaled-finite c above n L F) k ∙ scan-scaled c above n mask L k ∙ ap (scaledAll c) (sym (soft-same n plan mask A L F k))
 
 -- Two accepted calls that differ in their LLRs only take the same cycles.
 pub cycles-on-scale : (c d : DecodeCall) → c .mask ≡ d .mask → c .plan ≡ d .plan → c .sweeps ≡ d .sweeps → decodeNumber c ≡ 0 → decodeNumber d ≡ 0 → decodeCycles c ≡ decodeCycles d
@@ -220,7 +247,7 @@ drain-first = drain-over
 -- A frame's own tests are all that its decode can refuse, where the mask is good and the frame has N LLRs.
 pub frame-tests : (mask : List ℕ) (f : CaptureFrame) → refusal (row-1 (length mask) ∷ row-2 mask ∷ []) ≡ 0 → length (f .llrs) ≡ length mask
     → decodeNumber (frameCall mask f) ≡ refusal (row-4 (f .sweeps) ∷ row-7 (f .llrs) ∷ [])
-frame-tests mask f good values = let g = good-mask mask good in frame-left mask (g .0) (g .1) f values
+frame-tests mask f good values = let g = good-mask mask [] good in frame-left mask (g .0) (g .1) f values
 
 -- So each frame of an accepted capture is an accepted decode.
 pub frames-accepted : (bytes : List ℕ) → captureNumber bytes ≡ 0 → (j : ℕ) → j < frameCount bytes
@@ -303,3 +330,98 @@ module _ (n K : ℕ) (one : 1 ≤ K) (few : K ≤ 2 ^ n) where
   -- So no mask of that N and K has the property exactly where the mask by weight does not have it.
   pub none-exactly : (d : ℕ) → noMask n K d ≡ not (hasDistance n (weightMask n K) d)
   none-exactly d = none-exact n K d one few
+
+-- ---- 10. Positions frozen to 1 (request No. 9). The word of the frozen values, zeros elsewhere, is knownWord; frozenToZero replaces every mask byte 2 by 1.
+
+-- What frozenToZero does to a mask.
+pub ones-replaced : (mask : List ℕ) → T (atMost maxMask mask) → frozenToZero mask ≡ map (λ m. cond (isKnownOne m) 1 m) mask
+ones-replaced = toZero-replaces
+
+-- Kinds and cycles see 1 and 2 alike, and so do plans, the planner and its counts.
+pub alike-kinds : (m : ℕ) (mask : List ℕ) → kindOf m (frozenToZero mask) ≡ kindOf m mask
+alike-kinds = kinds-alike
+
+pub alike-allowed : (n : ℕ) (plan mask : List ℕ) → (Allowed n plan mask → Allowed n plan (frozenToZero mask)) × (Allowed n plan (frozenToZero mask) → Allowed n plan mask)
+alike-allowed n plan mask = (allowed-alike n plan mask, allowed-back n plan mask)
+
+pub alike-cycles : (n : ℕ) (plan mask : List ℕ) → cycles plan n 1 (frozenToZero mask) ≡ cycles plan n 1 mask
+alike-cycles n plan mask = cycles-alike plan n 1 mask
+
+pub alike-plan : (n : ℕ) (mask : List ℕ) → plannerPlan n (frozenToZero mask) ≡ plannerPlan n mask
+alike-plan = planner-alike
+
+pub alike-counts : (n : ℕ) (plan mask : List ℕ) → counts plan n (frozenToZero mask) ≡ counts plan n mask
+alike-counts n plan mask = counts-alike plan n mask
+
+-- The encoded word has the known ones in it: it is that of the mask with 1 for 2, flipped where the word of the frozen values has a 1.
+pub encode-ones : (n : ℕ) (mask payload : List ℕ) → length mask ≡ 2 ^ n → T (atMost 1 payload)
+    → encode n mask payload ≡ onOnes flipBit (knownWord n mask) (encode n (frozenToZero mask) payload)
+encode-ones = encode-known
+
+-- SCAN's soft values, from those of the mask with 1 for 2: by SCAN, and along an allowed plan.
+pub soft-ones : (n : ℕ) (mask : List ℕ) (L : List Soft) → FiniteAll n L → (k : ℕ)
+    → scan n mask L k ≡ onOnes negate (knownWord n mask) (scan n (frozenToZero mask) (onOnes negate (knownWord n mask) L) k)
+soft-ones = soft-known
+
+pub planned-ones : (n : ℕ) (plan mask : List ℕ) → Allowed n plan mask → (L : List Soft) → FiniteAll n L → (k : ℕ)
+    → scan n mask L k ≡ onOnes negate (knownWord n mask) (planned plan n (frozenToZero mask) (onOnes negate (knownWord n mask) L) k)
+planned-ones n plan mask A L F k =
+    soft-ones n mask L F k
+    ∙ ap (onOnes negate (knownWord n mask)) (sym (soft-same n plan (frozenToZero mask) (allowed-alike n plan mask A) (onOnes negate (knownWord n mask) L)
+    (unfold knownWord in flipped-finite n (knownBits mask) L F) k))
+
+-- The stored messages too, at the cuts, above and below them: sweeps along the mask with 1 for 2, from the flipped state and with the flipped LLRs, leave the
+-- flipped state.
+pub states-ones : (n : ℕ) (plan mask : List ℕ) (L : List Soft) → FiniteAll n L → (k : ℕ) (T : Tree)
+    → sweeps (λ X. walk plan n 1 (frozenToZero mask) X (onOnes negate (knownWord n mask) L)) k (flipTree n (knownBits mask) T)
+    ≡ flipTree n (knownBits mask) (sweeps (λ X. walk plan n 1 mask X L) k T)
+unfolding knownWord
+states-ones n plan mask L F k T = sweeps-flip plan n mask L F k T
+
+-- So what the sweeps of a decode leave, begun with the mask with 1 for 2 and whatever lies below the cuts, is at and above the cuts SCAN's state, flipped.
+pub sweeps-ones : (n : ℕ) (plan mask : List ℕ) → Allowed n plan mask → (L : List Soft) → FiniteAll n L → (k : ℕ) (P : Tree) → Agree plan n 1 (start n (frozenToZero mask)) P
+    → Agree plan n 1 (flipTree n (knownBits mask) (sweeps (λ T. visit n T L) k (start n mask)))
+    (sweeps (λ X. walk plan n 1 (frozenToZero mask) X (onOnes negate (knownWord n mask) L)) k P)
+sweeps-ones n plan mask W L F k P A =
+    let signed : Tree = flipTree n (knownBits mask) (sweeps (λ T. visit n T L) k (start n mask)) in
+    agree-both plan n 1 (walked (start n (frozenToZero mask))) signed (walked P)
+    (agree-both plan n 1 signed (walked (start n (frozenToZero mask))) signed flipped-agree (agree-same plan n 1 signed))
+    (agree-both plan n 1 (sweeps (λ T. visit n T (onOnes negate (knownWord n mask) L)) k (start n (frozenToZero mask))) (walked (start n (frozenToZero mask))) (walked P)
+    (from (start n (frozenToZero mask)) (agree-same plan n 1 (start n (frozenToZero mask)))) (from P A))
+  where
+    walked : Tree → Tree
+    walked Q = sweeps (λ X. walk plan n 1 (frozenToZero mask) X (onOnes negate (knownWord n mask) L)) k Q
+
+    from : (Q : Tree) → Agree plan n 1 (start n (frozenToZero mask)) Q
+        → Agree plan n 1 (sweeps (λ T. visit n T (onOnes negate (knownWord n mask) L)) k (start n (frozenToZero mask))) (walked Q)
+    from Q =
+        plan-agrees n plan (frozenToZero mask) (allowed-alike n plan mask W) (onOnes negate (knownWord n mask) L) (unfold knownWord in flipped-finite n (knownBits mask) L F) k Q
+
+    flipped-agree : Agree plan n 1 (flipTree n (knownBits mask) (sweeps (λ T. visit n T L) k (start n mask))) (walked (start n (frozenToZero mask)))
+    flipped-agree =
+        subst (Agree plan n 1 (flipTree n (knownBits mask) (sweeps (λ T. visit n T L) k (start n mask))))
+        (sym (states-ones n plan mask L F k (start n mask)) ∙ ap walked (start-flip n mask))
+        (agree-flip plan n 1 (knownBits mask) (sweeps (λ T. visit n T L) k (start n mask)) (sweeps (λ X. walk plan n 1 mask X L) k (start n mask))
+        (plan-agrees n plan mask W L F k (start n mask) (agree-same plan n 1 (start n mask))))
+
+-- The soft values in whole numbers: LLRs as they are handed in, soft values as the words that stand for them.
+pub words-ones : (n : ℕ) (mask : List ℕ) (llrs : List ℤ) (k : ℕ)
+    → map wordOf (scan n mask (map finite llrs) k)
+    ≡ onOnes negℤ (knownWord n mask) (map wordOf (scan n (frozenToZero mask) (map finite (onOnes negℤ (knownWord n mask) llrs)) k))
+words-ones n mask llrs k =
+    let w : List ℕ = knownWord n mask in
+    ap (map wordOf) (soft-ones n mask (map finite llrs) (llrs-finite n llrs) k
+    ∙ ap (λ L. onOnes negate w (scan n (frozenToZero mask) L k)) (sym (flip-llrs w llrs)))
+    ∙ flip-words w (scan n (frozenToZero mask) (map finite (onOnes negℤ w llrs)) k)
+
+-- The whole answer: soft values and decided hard bits flipped back, payload, frozen check and the number of undecided bits the same.
+pub decode-ones : (n : ℕ) (mask : List ℕ) → length mask ≡ 2 ^ n → (L : List Soft) → FiniteAll n L → (k : ℕ)
+    → decodeScan n mask L k ≡ flipDecoded (knownWord n mask) [] (decodeScan n (frozenToZero mask) (onOnes negate (knownWord n mask) L) k)
+decode-ones = answer-known
+
+-- Each accepted answer is that of a call with flipped LLRs and 1 for 2, flipped back; that call is accepted, with the same cycles.
+pub ones-answer : (c : DecodeCall) → decodeNumber c ≡ 0
+    → let w : List ℕ = knownWord (exponent (length (c .mask))) (c .mask) in
+    let d : DecodeCall = withZeros (withLlrs (onOnes negℤ w (c .llrs)) c) in
+    (decodeNumber d ≡ 0) × (decodeAnswer c ≡ flipDecoded w [] (decodeAnswer d)) × (decodeCycles c ≡ decodeCycles d)
+ones-answer c ok = (plain-number c ok, plain-answer c ok, plain-cycles c ok)

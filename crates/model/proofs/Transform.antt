@@ -5,12 +5,12 @@ use mathlib.Core.List.{List, [], _∷_, _++_}
 use Prim.Native.Nat.{ℕ, zero, suc, _+_, _*_, _/_, _%_, _^_, _<_, _≤_}
 use native.Mathlib.Nat.{add-assoc, add-comm, zero-add, mul-zero, zero-mul, one-mul, mul-add, mul-assoc, mul-comm, add-mod, mod-mod, div-eq-of-lt, mod-eq-of-lt, add-mul-div-right, add-mul-mod-self-right}
 use native.Mathlib.Omega.{arith}
-use lib.ListN.{getD, take, drop, length}
+use lib.ListN.{getD, take, drop, length, replicate}
 use lib.Pow.{pow-pos}
 use lib.Seq.{getD-take, getD-drop, ext-getD, take-at, drop-at}
 use Rattle.model.specs.Lists.{tabulate, total}
 use Rattle.model.specs.Encoding.{_⊕_, kernel, kronecker, polarMatrix, times, transform}
-use Rattle.model.proofs.Lists.{Monoid, double, length-tabulate, getD-tabulate, tabulate-ext, tabulate-split, tabulate-halves, joined-lo, joined-hi, halves, only, total-ext, total-split}
+use Rattle.model.proofs.Lists.{Monoid, double, length-tabulate, getD-tabulate, tabulate-same, tabulate-ext, tabulate-split, tabulate-halves, joined-lo, joined-hi, halves, only, total-ext, total-none, total-split}
 
 pub add-monoid : Monoid _+_ 0
 add-monoid = record { assoc = add-assoc; comm = add-comm; unit = zero-add }
@@ -211,3 +211,12 @@ pub undo : (t : ℕ) (u : List ℕ) → length u ≡ 2 ^ t → Bits t u → tran
 undo t u l B =
     ext-getD 0 (transform t (transform t u)) u (length-transform t (transform t u) ∙ sym l)
     (λ k h. undo-at t u B k (subst (λ (n : ℕ). k < n) (length-transform t (transform t u)) h))
+
+-- the word of zeros is zeros
+pub transform-none : (t : ℕ) (u : List ℕ) → ((k : ℕ) → getD u k 0 ≡ 0) → transform t u ≡ replicate (2 ^ t) 0
+unfolding transform times
+transform-none t u z =
+    tabulate-ext (2 ^ t) (λ j. column t u j % 2) (λ j. 0)
+    (λ j h. ap (λ (x : ℕ). x % 2) (total-none _+_ 0 add-monoid (2 ^ t) (λ i. getD u i 0 * polarMatrix t i j)
+    (λ i l. ap (λ (x : ℕ). x * polarMatrix t i j) (z i) ∙ zero-mul (polarMatrix t i j))))
+    ∙ tabulate-same (2 ^ t) 0

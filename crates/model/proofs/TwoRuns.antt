@@ -27,7 +27,7 @@ differ-twice false false = refl
 abbrev pub minus : ℕ → Bool
 minus b = eqb (b % 2) 1
 
-minus-sum : (a b : ℕ) → minus (a ⊕ b) ≡ differ (minus a) (minus b)
+pub minus-sum : (a b : ℕ) → minus (a ⊕ b) ≡ differ (minus a) (minus b)
 minus-sum a b = go (a % 2) (b % 2) refl refl (omega arith) (omega arith)
   where
     go : (x y : ℕ) → a % 2 ≡ x → b % 2 ≡ y → x < 2 → y < 2 → minus (a ⊕ b) ≡ differ (eqb x 1) (eqb y 1)
@@ -99,7 +99,7 @@ module _ (In Sum Part Msg : Rel) (A : Laws In Sum Part Msg) where
       sum-at : (k : ℕ) → k < 2 ^ t → Sum t (low k) (plus (L at (k + 2 ^ t)) (r at k)) (plus (L′ at (k + 2 ^ t)) (r′ at k))
       sum-at k h = A .sum t (low k) (L at (k + 2 ^ t)) (L′ at (k + 2 ^ t)) (r at k) (r′ at k) (in-hi k h) (R k h)
 
-      each-toLeft : Each In t (take (2 ^ t) u) (toLeft (2 ^ t) L r) (toLeft (2 ^ t) L′ r′)
+      pub each-toLeft : Each In t (take (2 ^ t) u) (toLeft (2 ^ t) L r) (toLeft (2 ^ t) L′ r′)
       unfolding toLeft
       each-toLeft k h =
           rw (getD-tabulate (2 ^ t) (λ k. box (L at k) (plus (L at (k + 2 ^ t)) (r at k))) k softZero h, getD-tabulate (2 ^ t) (λ k. box (L′ at k) (plus (L′ at (k + 2 ^ t)) (r′ at k))) k softZero h)
@@ -112,13 +112,13 @@ module _ (In Sum Part Msg : Rel) (A : Laws In Sum Part Msg) where
           subst (λ (s : Bool). Part t s (box (L at k) (l at k)) (box (L′ at k) (l′ at k))) (sign-r t u k h)
           (A .part t (word k) (up k) (L at k) (L′ at k) (l at k) (l′ at k) (in-lo k h) (M k h))
 
-      each-toRight : Each In t (drop (2 ^ t) u) (toRight (2 ^ t) L l) (toRight (2 ^ t) L′ l′)
+      pub each-toRight : Each In t (drop (2 ^ t) u) (toRight (2 ^ t) L l) (toRight (2 ^ t) L′ l′)
       unfolding toRight
       each-toRight k h =
           rw (getD-tabulate (2 ^ t) (λ k. plus (box (L at k) (l at k)) (L at (k + 2 ^ t))) k softZero h, getD-tabulate (2 ^ t) (λ k. plus (box (L′ at k) (l′ at k)) (L′ at (k + 2 ^ t))) k softZero h)
           (A .to-right t (low k) (box (L at k) (l at k)) (box (L′ at k) (l′ at k)) (L at (k + 2 ^ t)) (L′ at (k + 2 ^ t)) (part-at k h) (in-hi k h))
 
-      each-toNode : (r r′ : List Soft) → Each Msg t (drop (2 ^ t) u) r r′ → Each Msg (suc t) u (toNode (2 ^ t) L l r) (toNode (2 ^ t) L′ l′ r′)
+      pub each-toNode : (r r′ : List Soft) → Each Msg t (drop (2 ^ t) u) r r′ → Each Msg (suc t) u (toNode (2 ^ t) L l r) (toNode (2 ^ t) L′ l′ r′)
       unfolding toNode
       each-toNode r r′ R =
           halves t (λ k. Msg (suc t) (word k) (toNode (2 ^ t) L l r at k) (toNode (2 ^ t) L′ l′ r′ at k))

@@ -39,23 +39,34 @@ transform n u = times (2 ^ n) u (polarMatrix n)
 
 -- the largest mask byte
 abbrev pub maxMask : ℕ
-maxMask = 1
+maxMask = 2
 
 -- a mask of 2 ^ n bytes
 pub record Mask (n : ℕ) (mask : List ℕ) : Type 0 where
   pub sized : length mask ≡ 2 ^ n
   pub bytes : T (atMost maxMask mask)
 
--- a mask of 2 ^ n bytes 0 and 1: its frozen positions are frozen to zero
+-- a mask of 2 ^ n bytes 0 and 1: its frozen positions are frozen to 0
 pub record PlainMask (n : ℕ) (mask : List ℕ) : Type 0 where
   pub sized : length mask ≡ 2 ^ n
   pub bytes : T (atMost 1 mask)
 
--- a mask byte: 1 frozen, 0 unfrozen
+-- a mask byte: 0 unfrozen, 1 frozen to 0, 2 frozen to 1
 abbrev pub isUnfrozen : ℕ → Bool
 isUnfrozen m = eqb m 0
 
--- a mask as one that is frozen to zero: 1 for each frozen position, 0 for each unfrozen one
+abbrev pub isKnownOne : ℕ → Bool
+isKnownOne m = eqb m 2
+
+-- the frozen values, zeros elsewhere
+unfoldable pub knownBits : List ℕ → List ℕ
+knownBits mask = map (λ m. bit (isKnownOne m)) mask
+
+-- the word of the frozen values, zeros elsewhere
+unfoldable pub knownWord : ℕ → List ℕ → List ℕ
+knownWord n mask = transform n (knownBits mask)
+
+-- a mask with every byte 2 replaced by 1: 1 for each frozen position, 0 for each unfrozen one
 unfoldable pub frozenToZero : List ℕ → List ℕ
 frozenToZero mask = map (λ m. cond (isUnfrozen m) 0 1) mask
 
@@ -64,20 +75,20 @@ unfoldable pub unfrozen : List ℕ → ℕ
 unfrozen [] = 0
 unfrozen (m ∷ mask) = bit (isUnfrozen m) + unfrozen mask
 
--- payload bits go to the unfrozen positions in rising order, zeros elsewhere
+-- payload bits go to the unfrozen positions in rising order, the known bits elsewhere
 unfoldable pub place : List ℕ → List ℕ → List ℕ
 place [] bits = []
-place (m ∷ mask) bits = cond (isUnfrozen m) (getD bits 0 0 ∷ place mask (drop 1 bits)) (0 ∷ place mask bits)
+place (m ∷ mask) bits = cond (isUnfrozen m) (getD bits 0 0 ∷ place mask (drop 1 bits)) (bit (isKnownOne m) ∷ place mask bits)
 
 -- the unfrozen bits of u
 unfoldable pub payloadOf : List ℕ → List ℕ → List ℕ
 payloadOf [] u = []
 payloadOf (m ∷ mask) u = let rest : List ℕ = payloadOf mask (drop 1 u) in cond (isUnfrozen m) (getD u 0 0 ∷ rest) rest
 
--- whether the frozen bits of u are all 0
-unfoldable pub frozenZero : List ℕ → List ℕ → Bool
-frozenZero [] u = true
-frozenZero (m ∷ mask) u = cond (isUnfrozen m) true (eqb (getD u 0 0) 0) && frozenZero mask (drop 1 u)
+-- whether the frozen bits of u are the known ones
+unfoldable pub frozenMatch : List ℕ → List ℕ → Bool
+frozenMatch [] u = true
+frozenMatch (m ∷ mask) u = cond (isUnfrozen m) true (eqb (getD u 0 0) (bit (isKnownOne m))) && frozenMatch mask (drop 1 u)
 
 -- the word of a payload
 unfoldable pub encode : ℕ → List ℕ → List ℕ → List ℕ

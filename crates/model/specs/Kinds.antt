@@ -1,13 +1,13 @@
 -- Kinds of node: the table of document 01 with the two rows of request No. 3, in the order of request No. 4, a column a definition. Assumes nothing.
-use Prim.Native.Nat.{ℕ, suc, _-_, _%_}
+use Prim.Native.Nat.{ℕ, suc, _-_, _%_, _^_}
 use mathlib.Core.Bool.{Bool, true, false, cond, not, _&&_}
 use mathlib.Core.Option.{Option, none, some}
 use mathlib.Core.List.{List, [], _∷_, _++_}
 use lib.Dec.{eqb, leb}
 use lib.ListN.{replicate}
-use Rattle.model.specs.Lists.{tabulate, total, same}
-use Rattle.model.specs.Soft.{Soft, certain, softZero, _at_, box, plus}
-use Rattle.model.specs.Encoding.{frozenToZero}
+use Rattle.model.specs.Lists.{tabulate, total, same, onOnes}
+use Rattle.model.specs.Soft.{Soft, certain, softZero, _at_, negate, box, plus}
+use Rattle.model.specs.Encoding.{knownWord, frozenToZero}
 
 -- the table's first column
 pub data Kind : Type 0 where
@@ -25,7 +25,7 @@ butLast s m = replicate (m - s) 1 ++ replicate s 0
 abbrev pub onlyFirst : ℕ → ℕ → List ℕ
 onlyFirst s m = replicate s 1 ++ replicate (m - s) 0
 
--- column "pattern": the mask of a node of size m
+-- column "pattern": the mask of a node of size m, 1 for frozen
 abbrev pub pattern : Kind → ℕ → List ℕ
 pattern rate-0 m = replicate m 1
 pattern rate-1 m = replicate m 0
@@ -85,7 +85,7 @@ typeII m L k = plus (others plus softZero 4 m L k) (others box certain 1 4 (clas
 abbrev pub typeIV : ℕ → List Soft → ℕ → Soft
 typeIV m L k = box (others box certain 4 m L k) (others plus softZero 1 4 (classes box certain 4 m L) (k % 4))
 
--- column "message of the node", for size m and the incoming list L
+-- column "message of the node", for size m and the incoming list L, where every frozen position is frozen to 0
 unfoldable pub shortcut : Kind → ℕ → List Soft → List Soft
 shortcut rate-0 m L = tabulate m (λ k. certain)
 shortcut rate-1 m L = tabulate m (λ k. softZero)
@@ -96,7 +96,14 @@ shortcut type-III m L = tabulate m (others box certain 2 m L)
 shortcut type-II m L = tabulate m (typeII m L)
 shortcut type-IV m L = tabulate m (typeIV m L)
 
--- whether a node of size m with its part of the mask is of a kind
+-- the message of a node of kind k and stage t, with its part of the mask: the column's, with incoming values negated where the word of the node's frozen
+-- values has a 1, and negated back there
+unfoldable pub kindMessage : Kind → ℕ → List ℕ → List Soft → List Soft
+kindMessage k t mask L =
+    let word : List ℕ = knownWord t mask in
+    onOnes negate word (shortcut k (2 ^ t) (onOnes negate word L))
+
+-- whether a node of size m with its part of the mask is of a kind: 1 and 2 count alike
 abbrev pub fits : ℕ → List ℕ → Kind → Bool
 fits m mask k = leb (leastSize k) m && same (frozenToZero mask) (pattern k m)
 

@@ -1,6 +1,6 @@
 -- Lists made by a formula, folds, and tests on lists. Assumes nothing.
 use Prim.Native.Nat.{ℕ, zero, suc}
-use mathlib.Core.Bool.{Bool, true, false, _&&_}
+use mathlib.Core.Bool.{Bool, true, false, cond, _&&_}
 use mathlib.Core.List.{List, [], _∷_, _++_}
 use lib.Dec.{eqb, leb}
 use lib.ListN.{take, drop, length}
@@ -31,6 +31,12 @@ same (x ∷ xs) (y ∷ ys) = eqb x y && same xs ys
 unfoldable pub atMost : ℕ → List ℕ → Bool
 atMost m [] = true
 atMost m (x ∷ xs) = leb x m && atMost m xs
+
+-- f applied where a word has a 1
+unfoldable pub onOnes : {A : Type 0} → (A → A) → List ℕ → List A → List A
+onOnes f [] xs = xs
+onOnes f (b ∷ word) [] = []
+onOnes f (b ∷ word) (x ∷ xs) = cond (eqb b 1) (f x) x ∷ onOnes f word xs
 
 -- a test as a bit
 abbrev pub bit : Bool → ℕ

@@ -9,7 +9,7 @@ use lib.ListN.{getD, take, drop, length, replicate}
 use Rattle.model.specs.Lists.{tabulate, every, atMost, bit}
 use Rattle.model.specs.Soft.{Soft}
 use Rattle.model.specs.Scan.{Tree, leaf, node, message, left, right, toLeft, toRight, toNode, start, sweeps}
-use Rattle.model.specs.Kinds.{Kind, order, ownCycles, isFixed, kindOf, isSome, isKind, shortcut}
+use Rattle.model.specs.Kinds.{Kind, order, ownCycles, isFixed, kindOf, isSome, isKind, kindMessage}
 
 -- which kind a node counts as, by its size and its part of the mask. What follows takes `kindOf`; a definition whose name ends in By takes any, so that
 -- request No. 4's theorems can compare two
@@ -62,18 +62,18 @@ put m (leaf x) = leaf m
 put m (node x l r) = node m l r
 
 -- a cut node gets its kind's message
-abbrev pub putKind : Option Kind → ℕ → List Soft → Tree → Tree
-putKind none m L T = T
-putKind (some k) m L T = put (shortcut k m L) T
+abbrev pub putKind : Option Kind → ℕ → List ℕ → List Soft → Tree → Tree
+putKind none t mask L T = T
+putKind (some k) t mask L T = put (kindMessage k t mask L) T
 
 -- one visit of node p along a plan
 unfoldable pub walkBy : Naming → List ℕ → ℕ → ℕ → List ℕ → Tree → List Soft → Tree
-walkBy name plan zero p mask T L = putKind (name 1 mask) 1 L T
+walkBy name plan zero p mask T L = putKind (name 1 mask) 0 mask L T
 walkBy name plan (suc t) p mask T L =
     let l : Tree = walkBy name plan t (2 * p) (take (2 ^ t) mask) (left T) (toLeft (2 ^ t) L (message (right T))) in
     let r : Tree = walkBy name plan t (2 * p + 1) (drop (2 ^ t) mask) (right T) (toRight (2 ^ t) L (message l)) in
     let through : Tree = node (toNode (2 ^ t) L (message l) (message r)) l r in
-    cond (isCut plan p) (putKind (name (2 ^ suc t) mask) (2 ^ suc t) L T) through
+    cond (isCut plan p) (putKind (name (2 ^ suc t) mask) (suc t) mask L T) through
 
 abbrev pub walk : List ℕ → ℕ → ℕ → List ℕ → Tree → List Soft → Tree
 walk plan t p mask T L = walkBy kindOf plan t p mask T L

@@ -9,7 +9,7 @@ use lib.Ieee.{Float}
 use Rattle.model.specs.Lists.{atMost, over}
 use Rattle.model.specs.Soft.{finite, maxLlr, wordOf}
 use Rattle.model.specs.Samples.{isVariance, allReadable, llrsOf}
-use Rattle.model.specs.Encoding.{maxMask, unfrozen, encode}
+use Rattle.model.specs.Encoding.{maxMask, frozenToZero, unfrozen, encode}
 use Rattle.model.specs.Scan.{Decoded, decodeScan}
 use Rattle.model.specs.Kinds.{order}
 use Rattle.model.specs.Plans.{isPlan, oneCut, cutsOfKinds, cycles, plannerPlan, counts}
@@ -173,6 +173,28 @@ pub record DecodeCall : Type 0 where
   pub hardRoom : ℕ
   pub payloadRoom : ℕ
   pub words : ℕ
+
+-- the same call with another mask and other LLRs
+abbrev pub withInputs : List ℕ → List ℤ → DecodeCall → DecodeCall
+withInputs mask llrs c =
+    record {
+      mask = mask;
+      plan = c .plan;
+      sweeps = c .sweeps;
+      llrs = llrs;
+      softRoom = c .softRoom;
+      hardRoom = c .hardRoom;
+      payloadRoom = c .payloadRoom;
+      words = c .words;
+    }
+
+-- the same call with other LLRs
+abbrev pub withLlrs : List ℤ → DecodeCall → DecodeCall
+withLlrs llrs c = withInputs (c .mask) llrs c
+
+-- the same call with every mask byte 2 replaced by 1
+abbrev pub withZeros : DecodeCall → DecodeCall
+withZeros c = withInputs (frozenToZero (c .mask)) (c .llrs) c
 
 -- the number
 unfoldable pub decodeNumber : DecodeCall → ℕ

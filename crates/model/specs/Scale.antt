@@ -2,12 +2,13 @@
 use Prim.Native.Nat.{ℕ}
 use mathlib.Core.List.{List, map}
 use lib.IntN.{pos, _*ℤ_}
-use Rattle.model.specs.Soft.{Soft, finite, certain}
+use Rattle.model.specs.Soft.{Soft, finite, certain, certainOne}
 
--- c times a soft value: certain stays
+-- c times a soft value: ∞ and -∞ stay
 abbrev pub scaled : ℕ → Soft → Soft
 scaled c (finite z) = finite (pos c *ℤ z)
 scaled c certain = certain
+scaled c certainOne = certainOne
 
 -- c times each value of a list
 abbrev pub scaledAll : ℕ → List Soft → List Soft

@@ -7,9 +7,9 @@ use mathlib.Core.List.{List, [], _∷_, _++_}
 use lib.Dec.{eqb}
 use lib.IntN.{ℤ, pos, negsuc}
 use lib.ListN.{getD, take, drop, replicate}
-use Rattle.model.specs.Lists.{tabulate, bit}
-use Rattle.model.specs.Soft.{Soft, finite, certain, softZero, _at_, box, plus, negative}
-use Rattle.model.specs.Encoding.{isUnfrozen, unfrozen, transform, payloadOf, frozenZero}
+use Rattle.model.specs.Lists.{tabulate, bit, onOnes}
+use Rattle.model.specs.Soft.{Soft, finite, certain, certainOne, Finite, softZero, _at_, negate, box, plus, negative}
+use Rattle.model.specs.Encoding.{isUnfrozen, isKnownOne, unfrozen, transform, payloadOf, frozenMatch}
 
 -- Each node keeps a message list of its size.
 pub data Tree : Type 0 where
@@ -28,15 +28,19 @@ abbrev pub right : Tree → Tree
 right (leaf m) = leaf []
 right (node m l r) = r
 
--- a frozen leaf has ∞ and an unfrozen leaf 0
+-- a leaf frozen to 0 has ∞, a leaf frozen to 1 has -∞, and an unfrozen leaf 0
 unfoldable pub leafValue : ℕ → Soft
-leafValue b = cond (isUnfrozen b) softZero certain
+leafValue b = cond (isUnfrozen b) softZero (cond (isKnownOne b) certainOne certain)
 
 -- before the first sweep: the leaves' values, and every larger node has zeros
 unfoldable pub start : ℕ → List ℕ → Tree
 start zero mask = leaf (leafValue (getD mask 0 0) ∷ [])
 start (suc t) mask =
     node (tabulate (2 ^ suc t) (λ k. softZero)) (start t (take (2 ^ t) mask)) (start t (drop (2 ^ t) mask))
+
+-- the values of a list are finite, as LLRs are
+abbrev pub FiniteAll : ℕ → List Soft → Type 0
+FiniteAll t L = (k : ℕ) → k < 2 ^ t → Finite (L at k)
 
 -- the left child is visited with box(L[k], L[k+h] + r[k]), r as last stored
 unfoldable pub toLeft : ℕ → List Soft → List Soft → List Soft
@@ -75,10 +79,11 @@ signBit (pos zero) = 2
 signBit (pos (suc n)) = 0
 signBit (negsuc n) = 1
 
--- the bit of LLR plus soft; ∞ gives 0
+-- the bit of LLR plus soft; ∞ gives 0, -∞ gives 1
 abbrev pub hardBit : Soft → ℕ
 hardBit (finite z) = signBit z
 hardBit certain = 0
+hardBit certainOne = 1
 
 -- the hard bits, from LLR plus soft
 unfoldable pub hardWord : ℕ → List Soft → List Soft → List ℕ
@@ -101,9 +106,9 @@ pub record Decoded : Type 0 where
 unfoldable pub decidedPayload : ℕ → List ℕ → List ℕ → List ℕ
 decidedPayload n mask hard = cond (eqb (undecidedIn hard) 0) (payloadOf mask (transform n hard)) (replicate (unfrozen mask) 2)
 
--- the frozen check of a hard word: whether the frozen bits of the decoded u are all 0; if any bit is undecided, 0
+-- the frozen check of a hard word: whether the frozen bits of the decoded u are the known ones; if any bit is undecided, 0
 unfoldable pub decidedCheck : ℕ → List ℕ → List ℕ → ℕ
-decidedCheck n mask hard = cond (eqb (undecidedIn hard) 0) (bit (frozenZero mask (transform n hard))) 0
+decidedCheck n mask hard = cond (eqb (undecidedIn hard) 0) (bit (frozenMatch mask (transform n hard))) 0
 
 -- what is read off soft values
 unfoldable pub decided : ℕ → List ℕ → List Soft → List Soft → Decoded
@@ -114,6 +119,29 @@ decided n mask L s =
 -- SCAN: it takes a mask, LLRs and a number of sweeps, and knows no plan
 unfoldable pub decodeScan : ℕ → List ℕ → List Soft → ℕ → Decoded
 decodeScan n mask L k = decided n mask L (scan n mask L k)
+
+-- a decided bit flipped; an undecided one, 2, stays
+abbrev pub flipBit : ℕ → ℕ
+flipBit zero = 1
+flipBit (suc zero) = 0
+flipBit (suc (suc b)) = suc (suc b)
+
+-- a state with each node's message negated where the word of the node's part of u has a 1
+unfoldable pub flipTree : ℕ → List ℕ → Tree → Tree
+flipTree zero u T = leaf (onOnes negate (transform 0 u) (message T))
+flipTree (suc t) u T =
+    node (onOnes negate (transform (suc t) u) (message T)) (flipTree t (take (2 ^ t) u) (left T)) (flipTree t (drop (2 ^ t) u) (right T))
+
+-- an answer with soft values negated and decided hard bits flipped where a word has a 1, and decided payload bits where another has a 1
+unfoldable pub flipDecoded : List ℕ → List ℕ → Decoded → Decoded
+flipDecoded word bits d =
+    record {
+      soft = onOnes negate word (d .soft);
+      hard = onOnes flipBit word (d .hard);
+      payload = onOnes flipBit bits (d .payload);
+      check = d .check;
+      undecided = d .undecided;
+    }
 
 -- bit 0 is sent as +1, bit 1 as -1: no LLR is zero, and an LLR is negative exactly where the word has a 1
 abbrev pub SignsOf : ℕ → List ℕ → List ℤ → Type 0
