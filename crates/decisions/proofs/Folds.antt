@@ -1,6 +1,6 @@
 -- One more position, for the loops that read a payload and check the frozen bits. Assumes nothing.
 use mathlib.Core.Path.{_≡_, refl, sym, _∙_, ap, ap₂}
-use mathlib.Core.Bool.{Bool, true, false, cond, _&&_}
+use mathlib.Core.Bool.{Bool, true, false, cond, not, _&&_}
 use mathlib.Core.List.{List, [], _∷_, _++_, append-assoc, append-nil}
 use Prim.Native.Nat.{ℕ, zero, suc, _+_, _<_, _≤_, max}
 use native.Mathlib.Nat.{zero-add}
@@ -13,11 +13,11 @@ use lib.ListN.{length, getD, set, take, drop, length-set, take-append-drop, drop
 use lib.Seq.{drop-cons, drop-drop, take-suc-set, drop-set-lt, length-take-le}
 use Rattle.model.specs.Lists.{tabulate, bit, over}
 use mir.Val.{boolByte}
-use Rattle.model.specs.Soft.{Soft, finite, certain}
+use Rattle.model.specs.Soft.{Soft, finite, certain, certainOne}
 use Rattle.words.specs.Words.{write}
 use Rattle.words.proofs.Store.{store-more}
 use Rattle.model.specs.Scan.{hardBit, undecidedIn}
-use Rattle.model.specs.Encoding.{isUnfrozen, unfrozen, payloadOf, frozenZero}
+use Rattle.model.specs.Encoding.{isUnfrozen, unfrozen, payloadOf, isKnownOne, frozenMatch}
 use Rattle.model.proofs.Lists.{bit-small, and-assoc, and-true, first-left}
 use Rattle.inputs.proofs.Folds.{unfrozen-more}
 
@@ -30,6 +30,7 @@ bit-most (finite (pos zero)) = omega arith
 bit-most (finite (pos (suc n))) = omega arith
 bit-most (finite (negsuc n)) = omega arith
 bit-most certain = omega arith
+bit-most certainOne = omega arith
 
 -- where there are no ties, the bits by sign are the hard bits
 pub no-ties : (n : ℕ) (f : ℕ → ℕ) → ((k : ℕ) → f k ≤ 2) → undecidedIn (tabulate n f) ≡ 0 → (k : ℕ) → k < n → bit (eqb (f k) 1) ≡ f k
@@ -129,23 +130,28 @@ max-zero zero zero = refl
 max-zero zero (suc b) = ne-eqb (max 0 (suc b)) 0 (λ e. omega arith) ∙ sym (ne-eqb (suc b) 0 (λ e. omega arith))
 max-zero (suc a) b = ne-eqb (max (suc a) b) 0 (λ e. omega arith) ∙ sym (ap (λ (x : Bool). x && eqb b 0) (ne-eqb (suc a) 0 (λ e. omega arith)))
 
-pick-zero : (x : Bool) (b : ℕ) → cond x true (eqb b 0) ≡ eqb (cond x 0 b) 0
-pick-zero true b = refl
-pick-zero false b = refl
+-- a bit of u where the position's byte is m: 1 if it is not the value that the position is frozen to
+abbrev wrong : ℕ → ℕ → ℕ
+wrong m b = cond (isUnfrozen m) 0 (bit (not (eqb b (bit (isKnownOne m)))))
+
+right-is : (x t : Bool) → cond x true t ≡ eqb (cond x 0 (bit (not t))) 0
+right-is true t = refl
+right-is false true = refl
+right-is false false = refl
 
 pub check-more : (mask u : List ℕ) (i most : ℕ) → i < length mask
-    → (eqb most 0 && frozenZero (drop i mask) (drop i u))
-    ≡ (eqb (max most (cond (isUnfrozen (getD mask i 0)) 0 (getD u i 0))) 0 && frozenZero (drop (i + 1) mask) (drop (i + 1) u))
-unfolding frozenZero
+    → (eqb most 0 && frozenMatch (drop i mask) (drop i u))
+    ≡ (eqb (max most (wrong (getD mask i 0) (getD u i 0))) 0 && frozenMatch (drop (i + 1) mask) (drop (i + 1) u))
+unfolding frozenMatch
 check-more mask u i most lt =
-    let bits : Bool = eqb (cond (isUnfrozen (getD mask i 0)) 0 (getD u i 0)) 0 in
-    let rest : Bool = frozenZero (drop (i + 1) mask) (drop (i + 1) u) in
-    ap (λ (m : List ℕ). eqb most 0 && frozenZero m (drop i u)) (drop-cons mask i 0 lt ∙ ap (λ (n : ℕ). getD mask i 0 ∷ drop n mask) (sym (add-one i)))
-    ∙ ap₂ (λ (x : ℕ) (v : List ℕ). eqb most 0 && (cond (isUnfrozen (getD mask i 0)) true (eqb x 0) && frozenZero (drop (i + 1) mask) v)) (first-left u i 0) (drop-drop 1 i u)
-    ∙ ap (λ (x : Bool). eqb most 0 && (x && rest)) (pick-zero (isUnfrozen (getD mask i 0)) (getD u i 0))
+    let bits : Bool = eqb (wrong (getD mask i 0) (getD u i 0)) 0 in
+    let rest : Bool = frozenMatch (drop (i + 1) mask) (drop (i + 1) u) in
+    ap (λ (m : List ℕ). eqb most 0 && frozenMatch m (drop i u)) (drop-cons mask i 0 lt ∙ ap (λ (n : ℕ). getD mask i 0 ∷ drop n mask) (sym (add-one i)))
+    ∙ ap₂ (λ (x : ℕ) (v : List ℕ). eqb most 0 && (cond (isUnfrozen (getD mask i 0)) true (eqb x (bit (isKnownOne (getD mask i 0)))) && frozenMatch (drop (i + 1) mask) v)) (first-left u i 0) (drop-drop 1 i u)
+    ∙ ap (λ (x : Bool). eqb most 0 && (x && rest)) (right-is (isUnfrozen (getD mask i 0)) (eqb (getD u i 0) (bit (isKnownOne (getD mask i 0)))))
     ∙ sym (and-assoc (eqb most 0) bits rest)
-    ∙ ap (λ (x : Bool). x && rest) (sym (max-zero most (cond (isUnfrozen (getD mask i 0)) 0 (getD u i 0))))
+    ∙ ap (λ (x : Bool). x && rest) (sym (max-zero most (wrong (getD mask i 0) (getD u i 0))))
 
-pub check-end : (mask u : List ℕ) (i most : ℕ) → length mask ≤ i → (eqb most 0 && frozenZero (drop i mask) (drop i u)) ≡ eqb most 0
-unfolding frozenZero
-check-end mask u i most h = ap (λ (m : List ℕ). eqb most 0 && frozenZero m (drop i u)) (drop-of-length-le mask h) ∙ and-true (eqb most 0)
+pub check-end : (mask u : List ℕ) (i most : ℕ) → length mask ≤ i → (eqb most 0 && frozenMatch (drop i mask) (drop i u)) ≡ eqb most 0
+unfolding frozenMatch
+check-end mask u i most h = ap (λ (m : List ℕ). eqb most 0 && frozenMatch m (drop i u)) (drop-of-length-le mask h) ∙ and-true (eqb most 0)

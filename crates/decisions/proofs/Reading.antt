@@ -2,19 +2,19 @@
 use mathlib.Core.Path.{_≡_, refl, sym, _∙_, ap, ap₂, subst}
 use mathlib.Core.Bool.{Bool, true, cond, _&&_}
 use mathlib.Core.List.{List, [], _∷_, _++_}
-use Prim.Native.Nat.{ℕ, zero, suc, _+_, _-_, _^_, _≤_}
+use Prim.Native.Nat.{ℕ, zero, suc, _+_, _-_, _^_, _<_, _≤_}
 use native.Mathlib.Nat.{zero-add}
 use native.Mathlib.Omega.{arith}
 use lib.Dec.{eqb}
 use lib.IntN.{ℤ}
 use lib.ListN.{length, getD, take, drop, replicate, List·getD-append}
 use lib.Seq.{length-take-le, take-at, drop-at, getD-append-add, getD-drop}
-use Rattle.model.specs.Lists.{tabulate, over}
+use Rattle.model.specs.Lists.{tabulate, over, bit}
 use Rattle.model.specs.Soft.{plus, softOf}
-use Rattle.model.specs.Encoding.{isUnfrozen, unfrozen, transform, payloadOf, frozenZero}
+use Rattle.model.specs.Encoding.{isUnfrozen, isKnownOne, unfrozen, transform, payloadOf, frozenMatch}
 use Rattle.model.specs.Scan.{undecidedIn}
 use Rattle.model.proofs.Lists.{length-tabulate, getD-tabulate, bit-small}
-use Rattle.model.proofs.Transform.{length-transform}
+use Rattle.model.proofs.Transform.{length-transform, transform-bit}
 use Rattle.model.proofs.Undecided.{payload-decided, check-decided, payload-undecided, check-undecided}
 use Rattle.words.specs.Words.{word, write}
 use Rattle.words.proofs.Store.{write-is, write-ext, write-over}
@@ -73,11 +73,11 @@ payload-front (m ∷ mask) [] tail h = let z : ⊥ = omega arith in absurd z
 payload-front (m ∷ mask) (x ∷ u) tail h =
     ap (λ (p : List ℕ). cond (isUnfrozen m) (x ∷ p) p) (payload-front mask u tail (omega arith))
 
-pub frozen-front : (mask u tail : List ℕ) → length mask ≤ length u → frozenZero mask (u ++ tail) ≡ frozenZero mask u
-unfolding frozenZero
+pub frozen-front : (mask u tail : List ℕ) → length mask ≤ length u → frozenMatch mask (u ++ tail) ≡ frozenMatch mask u
+unfolding frozenMatch
 frozen-front [] u tail h = refl
 frozen-front (m ∷ mask) [] tail h = let z : ⊥ = omega arith in absurd z
-frozen-front (m ∷ mask) (x ∷ u) tail h = ap (λ (b : Bool). cond (isUnfrozen m) true (eqb x 0) && b) (frozen-front mask u tail (omega arith))
+frozen-front (m ∷ mask) (x ∷ u) tail h = ap (λ (b : Bool). cond (isUnfrozen m) true (eqb x (bit (isKnownOne m))) && b) (frozen-front mask u tail (omega arith))
 
 -- ---- payload and check, from a longer u
 module _ (mask word u v : List ℕ) (n : ℕ) (positions : length mask ≡ 2 ^ n) (e : v ≡ over (transform n word) u) where
@@ -88,11 +88,16 @@ module _ (mask word u v : List ℕ) (n : ℕ) (positions : length mask ≡ 2 ^ n
   long : length mask ≤ length (transform n word)
   long = omega (arith, positions, length-transform n word)
 
+  pub front-bits : (k : ℕ) → k < length mask → getD v k 0 ≤ 1
+  front-bits k h =
+      subst (λ (b : ℕ). b ≤ 1) (sym (ap (λ (l : List ℕ). getD l k 0) front ∙ List·getD-append (transform n word) _ 0 k (omega (arith, long))))
+      (transform-bit n word k (omega (arith, positions)))
+
   pub payload-law : payloadOf mask v ≡ payloadOf mask (transform n word)
   payload-law = ap (payloadOf mask) front ∙ payload-front mask (transform n word) (drop (length (transform n word)) u) long
 
-  pub check-law : frozenZero mask v ≡ frozenZero mask (transform n word)
-  check-law = ap (frozenZero mask) front ∙ frozen-front mask (transform n word) (drop (length (transform n word)) u) long
+  pub check-law : frozenMatch mask v ≡ frozenMatch mask (transform n word)
+  check-law = ap (frozenMatch mask) front ∙ frozen-front mask (transform n word) (drop (length (transform n word)) u) long
 
 tabulate-bits : (n : ℕ) (f : ℕ → ℕ) → ((k : ℕ) → f k ≤ 1) → AllBits (tabulate n f)
 unfolding tabulate

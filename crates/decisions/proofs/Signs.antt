@@ -4,18 +4,20 @@ use mathlib.Core.Logic.{⊎-elim}
 use mathlib.Core.Bool.{Bool, true, false, cond}
 use Prim.Native.Nat.{ℕ, zero, suc, _+_, _-_, _^_, _<_, _≤_}
 use native.Mathlib.Omega.{arith}
-use borrow.Author.Tests.{le-ltb, eq-eqb, ne-eqb, eqb-true, eqb-false}
+use borrow.Author.Tests.{le-ltb, lt-ltb, eq-eqb, ne-eqb, eqb-true, eqb-false}
 use lib.Dec.{eqb, ltb}
 use lib.IntN.{ℤ, pos, negsuc, negℤ, natAbs, subℕ, _+ℤ_, +ℤ-invl, +ℤ-invr, +ℤ-assoc, +ℤ-idl, +ℤ-idr}
 use lib.Signed.{ltZ, mag}
 use mir.Syntax.{w16, w32}
 use mir.Val.{SFits, ofZ, toZ}
 use mir.Facts.{toZ-ofZ}
-use Rattle.model.specs.Soft.{finite, certain, plus, softOf, mark}
+use Rattle.model.specs.Soft.{finite, certain, certainOne, signed, plus, softOf, mark}
 use Rattle.model.specs.Lists.{bit}
-use Rattle.model.specs.Scan.{signBit}
-use Rattle.words.proofs.Laws.{soft-fin, soft-cases}
-use Rattle.words.proofs.Signed.{back, back16, abs-neg, sum-not, sum-less}
+use Rattle.model.specs.Scan.{signBit, hardBit}
+use Rattle.model.proofs.Lists.{bit-small}
+use Rattle.model.proofs.Bounds.{abs-neg, abs-signed}
+use Rattle.words.proofs.Laws.{Marked, soft-fin, soft-cases}
+use Rattle.words.proofs.Signed.{back, back16, sum-not, sum-less}
 use Rattle.decisions.specs.Bits.{decision}
 use Rattle.decisions.proofs.Folds.{bit-most}
 
@@ -56,40 +58,50 @@ module _ (a : ℤ) (h : mag a < 2 ^ 15) where
       go (negsuc n) l = omega arith
 
   finite-llr : softOf a ≡ finite a
-  finite-llr = soft-fin a (λ e. absurd (omega (arith, h, ap mag e)))
+  finite-llr = soft-fin a (λ e. absurd (omega (arith, e, llr-word)))
 
-  -- a certain value is above every negated LLR
-  above : ltZ (pos mark) (negℤ a) ≡ false
-  above = go a h
+  -- ∞ is above every negated LLR, and -∞ below
+  beyond : (s : Bool) → ltZ (signed s mark) (negℤ a) ≡ s
+  beyond s = go s a h
     where
-      go : (z : ℤ) → mag z < 2 ^ 15 → ltZ (pos mark) (negℤ z) ≡ false
-      go (pos n) l = sum-not mark n
-      go (negsuc n) l = le-ltb mark (suc n) (omega arith)
+      go : (s : Bool) (z : ℤ) → mag z < 2 ^ 15 → ltZ (signed s mark) (negℤ z) ≡ s
+      go false (pos n) l = sum-not mark n
+      go false (negsuc n) l = le-ltb mark (suc n) (omega arith)
+      go true (pos n) l = sum-less 2147483646 n ∙ lt-ltb n mark (omega arith)
+      go true (negsuc n) l = refl
 
   both : (b : ℤ) → softOf b ≡ finite b → decision a b ≡ signBit (a +ℤ b)
   unfolding plus
   both b e = rw (finite-llr, e)
 
-  -- a certain value decides 0
-  sure : (b : ℤ) → softOf b ≡ certain → decision a b ≡ 0
+  -- ∞ decides 0, and -∞ 1
+  sure : (b : ℤ) (m : Marked b) → decision a b ≡ bit (m .sign)
   unfolding plus
-  sure b e = rw (finite-llr, e)
+  sure b m = rw (finite-llr, m .soft) (go (m .sign))
+    where
+      go : (s : Bool) → hardBit (plus (finite a) (cond s certainOne certain)) ≡ bit s
+      go true = refl
+      go false = refl
+
+  one-is : (s : Bool) → eqb (bit s) 1 ≡ s
+  one-is true = refl
+  one-is false = refl
 
   pub by-order : (b : ℤ) → ltZ b (negℤ a) ≡ eqb (decision a b) 1
   by-order b =
-      ⊎-elim (λ e. ap (λ (z : ℤ). ltZ z (negℤ a)) (e .0) ∙ above ∙ sym (ap (λ (d : ℕ). eqb d 1) (sure b (e .1))))
+      ⊎-elim (λ m. ap (λ (z : ℤ). ltZ z (negℤ a)) (m .is) ∙ beyond (m .sign) ∙ sym (ap (λ (d : ℕ). eqb d 1) (sure b m) ∙ one-is (m .sign)))
       (λ e. below a b ∙ sym (ap (λ (d : ℕ). eqb d 1) (both b e)))
       (soft-cases b)
 
-  -- a certain value is not a negated LLR
-  far : pos mark ≡ negℤ a → ⊥
-  far e = absurd (omega (arith, ap natAbs e, abs-neg a, llr-word))
+  -- neither of them is a negated LLR
+  far : (s : Bool) → signed s mark ≡ negℤ a → ⊥
+  far s e = absurd (omega (arith, ap natAbs e, abs-signed s mark, abs-neg a, llr-word))
 
   pub tied : (b : ℤ) → b ≡ negℤ a → decision a b ≡ 2
-  tied b q = ⊎-elim (λ e. absurd (far (sym (e .0) ∙ q))) (λ e. both b e ∙ ap signBit (ap (λ (z : ℤ). a +ℤ z) q ∙ +ℤ-invr a)) (soft-cases b)
+  tied b q = ⊎-elim (λ m. absurd (far (m .sign) (sym (m .is) ∙ q))) (λ e. both b e ∙ ap signBit (ap (λ (z : ℤ). a +ℤ z) q ∙ +ℤ-invr a)) (soft-cases b)
 
   untied : (b : ℤ) → (b ≡ negℤ a → ⊥) → decision a b ≡ 2 → ⊥
-  untied b n q = ⊎-elim (λ e. absurd (omega (arith, sym (sure b (e .1)) ∙ q))) (λ e. n (opposite-of a b (zero-sign (a +ℤ b) (sym (both b e) ∙ q)))) (soft-cases b)
+  untied b n q = ⊎-elim (λ m. absurd (omega (arith, sym (sure b m) ∙ q, bit-small (m .sign)))) (λ e. n (opposite-of a b (zero-sign (a +ℤ b) (sym (both b e) ∙ q)))) (soft-cases b)
 
   pub not-tied : (b r : ℤ) → r ≡ negℤ a → (ofZ w32 b ≡ ofZ w32 r → ⊥) → bit (eqb (decision a b) 1) ≡ decision a b
   not-tied b r e n = small (decision a b) (bit-most (plus (softOf a) (softOf b))) (untied b (λ q. n (ap (ofZ w32) (q ∙ sym e))))

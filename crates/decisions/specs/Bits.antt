@@ -2,11 +2,11 @@
 use mathlib.Core.Path.{_≡_}
 use Prim.Native.Nat.{ℕ, _^_, _≤_}
 use mathlib.Core.List.{List}
-use lib.Dec.{eqb}
+use lib.Dec.{T, eqb}
 use lib.IntN.{ℤ}
 use lib.ListN.{length}
-use Rattle.model.specs.Lists.{tabulate, over, bit}
-use Rattle.model.specs.Encoding.{unfrozen, transform, payloadOf, frozenZero}
+use Rattle.model.specs.Lists.{tabulate, over, atMost, bit}
+use Rattle.model.specs.Encoding.{maxMask, unfrozen, transform, payloadOf, frozenMatch}
 use Rattle.model.specs.Soft.{plus, softOf}
 use Rattle.model.specs.Scan.{hardBit, undecidedIn, decidedPayload, decidedCheck}
 use Rattle.words.specs.Words.{word}
@@ -40,24 +40,25 @@ pub record BitsRoom (n N from to : ℕ) : Type 0 where
   pub from-room : N ≤ from
   pub to-room : N ≤ to
 
--- what a hard word of N = 2^n bits requires: room for it and for the payload
+-- what a hard word of N = 2^n bits requires: a mask's bytes, and room for it and for the payload
 pub record WordRoom (mask : List ℕ) (n N hard payload : ℕ) : Type 0 where
   pub size : N ≡ 2 ^ n
   pub few : N ≤ 1024
   pub positions : length mask ≡ N
+  pub bytes : T (atMost maxMask mask)
   pub bits : N ≤ hard
   pub payload-room : unfrozen mask ≤ payload
 
--- what is read off a hard word without undecided bits: the unfrozen bits of the decoded u, its transform, and whether the frozen ones are all 0
+-- what is read off a hard word without undecided bits: the unfrozen bits of the decoded u, its transform, and whether the frozen ones are those known
 pub record WordRead (mask : List ℕ) (n : ℕ) (word payload payload′ : List ℕ) (check : ℕ) : Type 0 where
   pub payload-is : payload′ ≡ over (payloadOf mask (transform n word)) payload
-  pub check-is : check ≡ bit (frozenZero mask (transform n word))
+  pub check-is : check ≡ bit (frozenMatch mask (transform n word))
 
 -- what reading off requires: K, room for the results, and LLR and soft value of each bit
 pub record Readable (mask : List ℕ) (llrs soft : List ℤ) (n N K hard payload : ℕ) : Type 0 where
   pub room : WordRoom mask n N hard payload
   pub count : K ≡ unfrozen mask
-  pub sums : Decidable llrs soft N hard
+  pub decidable : Decidable llrs soft N hard
 
 -- what is read off a hard word: itself, payload, frozen check, and the number of its undecided bits
 pub record ReadOff (mask : List ℕ) (n : ℕ) (word hard hard′ payload payload′ : List ℕ) (check undecided : ℕ) : Type 0 where

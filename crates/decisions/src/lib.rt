@@ -4,13 +4,13 @@ use inputs::larger;
 use transform::strides;
 use words::widened;
 ghost use mathlib.Core.Path.{_≡_};
-ghost use mathlib.Core.Bool.{cond};
-ghost use Prim.Native.Nat.{_≤_};
-ghost use lib.Dec.{eqb};
+ghost use mathlib.Core.Bool.{cond, not};
+ghost use Prim.Native.Nat.{ℕ, _≤_, _<_};
+ghost use lib.Dec.{T, eqb};
 ghost use lib.IntN.{negℤ};
-ghost use lib.ListN.{length, take, replicate};
-ghost use Rattle.model.specs.Lists.{bit, over};
-ghost use Rattle.model.specs.Encoding.{isUnfrozen, unfrozen, payloadOf, frozenZero};
+ghost use lib.ListN.{length, getD, take, replicate};
+ghost use Rattle.model.specs.Lists.{atMost, bit, over};
+ghost use Rattle.model.specs.Encoding.{maxMask, isUnfrozen, isKnownOne, unfrozen, payloadOf, frozenMatch};
 ghost use Rattle.model.specs.Encoding as encoding;
 ghost use Rattle.model.specs.Scan.{undecidedIn};
 ghost use Rattle.transform.specs.Steps.{AllBits};
@@ -113,35 +113,38 @@ fn read_payload(mask: &[u8], u: &[u8], payload: &mut [u8])
     }
 }
 
-// A bit of u where its position is frozen, otherwise 0.
-fn frozen_bit(byte: u8, b: u8) -> u8
-    ensures { λ r. ⌜ r ≡ cond (isUnfrozen byte) 0 b ⌝ }
+// 1 for a bit of u that is not the value its position is frozen to, otherwise 0: byte and bit are 1 and 1, or 2 and 0.
+fn wrong_bit(byte: u8, b: u8) -> u8
+    requires { ⌜ (byte ≤ maxMask) × (b ≤ 1) ⌝ }
+    ensures { λ r. ⌜ r ≡ cond (isUnfrozen byte) 0 (bit (not (eqb b (bit (isKnownOne byte))))) ⌝ }
 {
-    if byte == UNFROZEN { 0 } else { b }
+    (byte + b == 2) as u8
 }
 
-// 1 exactly if the frozen bits of u are all 0.
+// 1 exactly if the frozen bits of u are the values that their positions are frozen to.
 fn frozen_check(mask: &[u8], u: &[u8]) -> u8
-    requires { ⌜ length (now mask) ≤ length (now u) ⌝ }
-    ensures { λ r. ⌜ r ≡ bit (frozenZero (now (mask .entry)) (now (u .entry))) ⌝ }
+    requires { ⌜ (length (now mask) ≤ length (now u)) × T (atMost maxMask (now mask)) ⌝ }
+    requires { ⌜ ((k : ℕ) → k < length (now mask) → getD (now u) k 0 ≤ 1) ⌝ }
+    ensures { λ r. ⌜ r ≡ bit (frozenMatch (now (mask .entry)) (now (u .entry))) ⌝ }
 {
     let mut most: u8 = 0;
     let mut i = 0;
     while i < mask.len() {
-        most = larger(most, frozen_bit(mask[i], u[i]));
+        most = larger(most, wrong_bit(mask[i], u[i]));
         i += 1;
     }
     (most == 0) as u8
 }
 
-// The first bytes of `from`, as many as `size` says, to the front of `to`.
-fn copy_bytes(from: &[u8], to: &mut [u8], size: usize)
-    requires { ⌜ (size ≤ length (now from)) × (size ≤ length (now to)) ⌝ }
+// The first bytes of `from`, as many as `size` says, to the front of `to`. They are bits: modulo 2 they are as they were, and
+// without it the loop would be compiled to a call, which costs a short word more.
+fn copy_bits(from: &[u8], to: &mut [u8], size: usize)
+    requires { ⌜ (size ≤ length (now from)) × (size ≤ length (now to)) × AllBits (take size (now from)) ⌝ }
     ensures { λ _. ⌜ now (to .exit) ≡ over (take size (now (from .entry))) (now (to .entry)) ⌝ }
 {
     let mut i = 0;
     while i < size {
-        to[i] = from[i];
+        to[i] = from[i] % 2;
         i += 1;
     }
 }
@@ -151,7 +154,7 @@ fn decoded_bits(hard: &[u8], u: &mut [u8], size: usize, stage: usize)
     requires { ⌜ BitsRoom stage size (length (now hard)) (length (now u)) × AllBits (take size (now hard)) ⌝ }
     ensures { λ _. ⌜ now (u .exit) ≡ over (encoding.transform stage (take size (now (hard .entry)))) (now (u .entry)) ⌝ }
 {
-    copy_bytes(hard, u, size);
+    copy_bits(hard, u, size);
     strides(&mut u[..size], stage);
 }
 

@@ -1,23 +1,25 @@
 -- A decode's answer and buffers, from its steps to the definitions. Assumes nothing.
 use mathlib.Core.Path.{_≡_, refl, sym, _∙_, ap, ap₂, subst}
 use mathlib.Core.Bool.{Bool, true, false, cond}
-use mathlib.Core.List.{List, [], _∷_, map}
+use mathlib.Core.List.{List, [], _∷_, _++_, map}
 use Prim.Native.Nat.{ℕ, zero, suc, _+_, _*_, _^_, _<_, _≤_}
 use native.Mathlib.Nat.{zero-add, mul-le-mul}
 use native.Mathlib.Omega.{arith}
 use borrow.Author.Tests.{eq-eqb, ne-eqb, leb-true}
 use lib.Dec.{eqb, leb}
 use lib.IntN.{ℤ, pos, natAbs}
-use lib.ListN.{length, getD, List·getD-map, length-append}
+use lib.ListN.{length, getD, drop, length-append, length-drop, List·getD-map}
+use lib.Seq.{drop-at}
 use Rattle.model.specs.Lists.{tabulate, over}
-use Rattle.model.specs.Soft.{Soft, finite, softZero, _at_, plus, mark, wordOf, maxLlr, softOf}
+use Rattle.model.specs.Soft.{finite, _at_, plus, wordOf, maxLlr, softOf}
 use lib.Pow.{pow-mono}
 use Rattle.model.specs.Encoding.{unfrozen}
-use Rattle.model.specs.Scan.{Tree, message, start, toNode, visit, sweeps, scan, hardBit, hardWord, undecidedIn, decidedPayload, decidedCheck, decided, decodeScan}
+use Rattle.model.specs.Scan.{scan, hardBit, hardWord, undecidedIn, decidedPayload, decidedCheck, decided, decodeScan}
 use Rattle.model.specs.Bounds.{Small, Under, limit}
 use Rattle.model.specs.Refusals.{refusal, row-1, row-2, row-3, row-4, row-5, row-6, row-7, row-11, row-12, exponent, DecodeCall, decodeNumber, decodeAnswer, decodeCycles, decodeCheck, decodeUndecided, decodeSoft, decodeHard, decodePayload, decodeWork}
-use Rattle.model.proofs.Lists.{length-tabulate, tabulate-same, tabulate-ext, double}
+use Rattle.model.proofs.Lists.{length-tabulate, tabulate-same, tabulate-ext}
 use Rattle.model.proofs.Bounds.{soft-under, cap-limit, under-mono}
+use Rattle.model.proofs.Flips.{length-soft}
 use Rattle.model.proofs.Refusals.{refusal-then, passes, llrs-small}
 use Rattle.model.proofs.Theorems.{cycles-most}
 use Rattle.inputs.proofs.Rows.{passed-few}
@@ -25,48 +27,16 @@ use Rattle.words.specs.Words.{word, write, stored}
 use Rattle.words.proofs.Laws.{soft-fin, soft-word}
 use Rattle.words.proofs.Store.{write-in, length-write}
 use Rattle.scan.specs.Space.{Decodable}
+use Rattle.scan.proofs.Flipped.{stored-front}
 use Rattle.decisions.specs.Bits.{decisionAt, wordDecisions, Readable, ReadOff}
 use Rattle.decisions.proofs.Reading.{write-front}
 use Rattle.decode.specs.Calls.{lent, Given, callOf, Outcome}
 use Rattle.decode.specs.Steps.{inputNumber, Passed}
 use Rattle.model.specs.Plans as plans
 
--- ---- lengths
-length-toNode : (h : ℕ) (L l r : List Soft) → length (toNode h L l r) ≡ h + h
-unfolding toNode
-length-toNode h L l r =
-    length-append (tabulate h _) (tabulate h _) ∙ ap₂ (λ (x y : ℕ). x + y) (length-tabulate h _) (length-tabulate h _)
-
-sweeps-more : (f : Tree → Tree) (k : ℕ) (P : Tree) → sweeps f (suc k) P ≡ f (sweeps f k P)
-unfolding sweeps
-sweeps-more f zero P = refl
-sweeps-more f (suc k) P = sweeps-more f k (f P)
-
-length-visit : (t : ℕ) (P : Tree) (L : List Soft) → length (message (visit (suc t) P L)) ≡ 2 ^ suc t
-unfolding visit
-length-visit t P L = length-toNode (2 ^ t) L _ _ ∙ sym (double t)
-
-length-scan : (t : ℕ) (mask : List ℕ) (L : List Soft) (k : ℕ) → length (scan (suc t) mask L k) ≡ 2 ^ suc t
-length-scan t mask L zero = unfold scan sweeps start in length-tabulate (2 ^ suc t) _
-length-scan t mask L (suc k) =
-    unfold scan in ap (λ (P : Tree). length (message P)) (sweeps-more (λ T. visit (suc t) T L) k (start (suc t) mask)) ∙ length-visit t (sweeps (λ T. visit (suc t) T L) k (start (suc t) mask)) L
-
-pub scan-length : (t : ℕ) → (t ≡ 0 → ⊥) → (mask : List ℕ) (L : List Soft) (k : ℕ) → length (scan t mask L k) ≡ 2 ^ t
-scan-length zero n mask L k = absurd (n refl)
-scan-length (suc t) n mask L k = length-scan t mask L k
-
 pow-above : (j : ℕ) → j < 2 ^ suc j
 pow-above zero = omega arith
 pow-above (suc j) = let h : j < 2 ^ suc j = pow-above j in omega arith
-
--- ---- lists by their places
-tabulate-map : {A B : Type 0} (f : A → B) (l : List A) (d : A) → tabulate (length l) (λ k. f (getD l k d)) ≡ map f l
-unfolding tabulate
-tabulate-map f [] d = refl
-tabulate-map f (x ∷ l) d = ap (λ xs. f x ∷ xs) (tabulate-map f l d)
-
-by-places : {A B : Type 0} (f : A → B) (l : List A) (d : A) (n : ℕ) → length l ≡ n → tabulate n (λ k. f (getD l k d)) ≡ map f l
-by-places f l d n e = ap (λ (k : ℕ). tabulate k (λ k. f (getD l k d))) (sym e) ∙ tabulate-map f l d
 
 module _ (g : Given) where
   abbrev pub mask : List ℕ
@@ -159,13 +129,16 @@ module _ (g : Given) where
     pub work-room : N * (n + 3) ≤ length work
     work-room = leb-true (N * (n + 3)) (length work) (passes 12 (leb (N * (n + 3)) (length work)) _ (λ q. omega arith) (passes 11 (leb (unfrozen mask) (length payload)) _ (λ q. omega arith) after-hard .1) .0)
 
+    -- the hard word while its front is lent
+    pub held-long : (known : List ℕ) → length known ≡ N → length (known ++ drop N hard) ≡ length hard
+    held-long known e = length-append known (drop N hard) ∙ omega (arith, e, length-drop N hard, hard-room)
+
+    -- nothing of what the front held is left where a word of N bits is written over it
+    over-held : (known word : List ℕ) → length known ≡ N → length word ≡ N → over word (known ++ drop N hard) ≡ over word hard
+    unfolding over
+    over-held known word e q = ap (λ (l : List ℕ). word ++ l) (ap (λ (n : ℕ). drop n (known ++ drop N hard)) q ∙ drop-at known (drop N hard) N e ∙ ap (λ (n : ℕ). drop n hard) (sym q))
+
     module _ {cycles t : ℕ} (p : Passed mask plan k llrs cycles t) where
-      abbrev L : List Soft
-      L = map finite llrs
-
-      abbrev S : List Soft
-      S = scan t mask (map finite llrs) k
-
       few : N ≤ 1024
       few = passed-few (p .mask-passed)
 
@@ -196,34 +169,35 @@ module _ (g : Given) where
             ∙ ap (λ (i : ℕ). getD (stored soft 0 N (scan t mask (map finite llrs) k)) i (pos 0)) (sym (zero-add j))
             ∙ write-in (pos 0) soft 0 N (λ i. wordOf (scan t mask (map finite llrs) k at i)) j lt (omega (arith, soft-room))
 
-        under : (j : ℕ) → j < N → Under limit (scan t mask (map finite llrs) k at j)
+        under : (j : ℕ) → j < N → Under true limit (scan t mask (map finite llrs) k at j)
         under j lt =
-            under-mono (scan t mask (map finite llrs) k at j) (let c = cap-limit t (p .mask-passed .low) in omega arith)
-            (soft-under t mask (map finite llrs) (llrs-small t llrs (p .range)) k j (omega (arith, p .mask-passed .sized)))
+            under-mono true (scan t mask (map finite llrs) k at j) (let c = cap-limit t (p .mask-passed .low) in omega arith)
+            (soft-under true t mask (λ j h o. tt) (map finite llrs) (llrs-small t llrs (p .range)) k j (omega (arith, p .mask-passed .sized)))
 
         soft-place : (j : ℕ) → j < N → softOf (word soft′ j) ≡ scan t mask (map finite llrs) k at j
-        soft-place j lt = ap softOf (word-at j lt) ∙ soft-word limit (scan t mask (map finite llrs) k at j) (omega arith) (under j lt)
+        soft-place j lt = ap softOf (word-at j lt) ∙ soft-word true limit (scan t mask (map finite llrs) k at j) (omega arith) (under j lt)
 
         llr-place : (j : ℕ) → softOf (word llrs j) ≡ map finite llrs at j
         llr-place j =
-            soft-fin (word llrs j) (λ e. let f : natAbs (word llrs j) ≡ mark = ap natAbs e in omega (arith, small j))
+            soft-fin (word llrs j) (λ e. omega (arith, e, small j))
             ∙ sym (List·getD-map finite llrs j (pos 0))
 
-        pub readable : {count : ℕ} → count ≡ unfrozen mask → Readable mask llrs soft′ t N count (length hard) (length payload)
-        readable is = record {
+        pub readable : {count room : ℕ} → room ≡ length hard → count ≡ unfrozen mask → Readable mask llrs soft′ t N count room (length payload)
+        readable long is = record {
           room = record {
             size = p .mask-passed .sized;
             few = few;
             positions = refl;
-            bits = hard-room;
+            bytes = p .mask-passed .bytes;
+            bits = omega (arith, long, hard-room);
             payload-room = payload-room;
           };
           count = is;
-          sums = record {
+          decidable = record {
             few = few;
             values = omega (arith, p .values);
             softs = omega (arith, ap length es, length-stored, soft-room);
-            bits = hard-room;
+            bits = omega (arith, long, hard-room);
           };
         }
           where
@@ -248,20 +222,20 @@ module _ (g : Given) where
           accept = eq-eqb (decodeNumber call) 0 (sym zero-is)
 
           pub accepted-outcome : {r c d u check undecided : ℕ} {hard′ payload′ : List ℕ} {work′ : List ℤ} → r ≡ 0 → c ≡ k * cycles → d ≡ check → u ≡ undecided
-              → ReadOff mask t (wordDecisions llrs soft′ N) hard hard′ payload payload′ check undecided
+              → (known : List ℕ) → length known ≡ N
+              → ReadOff mask t (wordDecisions llrs soft′ N) (known ++ drop N hard) hard′ payload payload′ check undecided
               → work′ ≡ write work 0 (N * (t + 3)) (λ i. pos 0)
               → Outcome g (lent soft′ hard′ payload′ work′) r c d u
           unfolding decodeCycles decodeCheck decodeUndecided decodeSoft decodeHard decodePayload decodeWork decodeScan decided
-          accepted-outcome er ec ed eu off ew = record {
+          accepted-outcome er ec ed eu known long off ew = record {
             number-is = er ∙ zero-is;
             cycles-is = ec ∙ ap (λ (m : ℕ). k * m) (p .cycles-is ∙ ap (λ (m : ℕ). plans.cycles plan m 1 mask) (p .mask-passed .stage-is)) ∙ sym (rw accept);
             check-is = ed ∙ off .check-is ∙ ap (decidedCheck t mask) decisions-are ∙ sym (rw accept (ap (λ a. a .check) answer-is));
             undecided-is = eu ∙ off .undecided-is ∙ ap undecidedIn decisions-are ∙ sym (rw accept (ap (λ a. a .undecided) answer-is));
             left = record {
-              soft-is = es ∙ write-front (pos 0) soft N (λ i. wordOf (scan t mask (map finite llrs) k at i)) soft-room
-                  ∙ ap (λ (l : List ℤ). over l soft) (by-places wordOf (scan t mask (map finite llrs) k) softZero N (scan-length t (p .mask-passed .not-zero) mask (map finite llrs) k ∙ sym (p .mask-passed .sized)))
+              soft-is = es ∙ stored-front soft N (scan t mask (map finite llrs) k) (length-soft t mask (map finite llrs) k ∙ sym (p .mask-passed .sized)) soft-room
                   ∙ sym (rw accept (ap (λ a. over (map wordOf (a .soft)) soft) answer-is));
-              hard-is = off .hard-is ∙ ap (λ (l : List ℕ). over l hard) decisions-are ∙ sym (rw accept (ap (λ a. over (a .hard) hard) answer-is));
+              hard-is = off .hard-is ∙ over-held known (wordDecisions llrs soft′ N) long (length-tabulate N (decisionAt llrs soft′)) ∙ ap (λ (l : List ℕ). over l hard) decisions-are ∙ sym (rw accept (ap (λ a. over (a .hard) hard) answer-is));
               payload-is = off .payload-is ∙ ap (λ (w : List ℕ). over (decidedPayload t mask w) payload) decisions-are ∙ sym (rw accept (ap (λ a. over (a .payload) payload) answer-is));
               work-is = ew ∙ ap (λ (m : ℕ). write work 0 (N * (m + 3)) (λ i. pos 0)) (p .mask-passed .stage-is)
                   ∙ write-front (pos 0) work (N * (n + 3)) (λ i. pos 0) work-room

@@ -18,7 +18,7 @@ use Rattle.inputs.proofs.Rows.{mask-refused, mask-accepted}
 use Rattle.decode.specs.Steps.{inputNumber, InputTests}
 use Rattle.model.specs.Plans as model
 
-module _ {mask : List ℕ} {number stage : ℕ} (plan : List ℕ) (sweeps : ℕ) (llrs : List ℤ) (m : MaskTests mask number stage) where
+module _ {mask : List ℕ} {number stage : ℕ} {ones : Bool} (plan : List ℕ) (sweeps : ℕ) (llrs : List ℤ) (m : MaskTests mask number stage ones) where
   abbrev n : ℕ
   n = exponent (length mask)
 
@@ -30,17 +30,17 @@ module _ {mask : List ℕ} {number stage : ℕ} (plan : List ℕ) (sweeps : ℕ)
   laterRows = row-5 n plan ∷ row-6 n plan mask ∷ row-7 llrs ∷ []
 
   -- a number that is not 0 has no passed inputs to show
-  refused-as : {r k cycles t : ℕ} → r ≡ k → (k ≡ 0 → ⊥) → k ≡ inputNumber mask plan sweeps llrs → InputTests mask plan sweeps llrs r cycles t
-  refused-as e h q = record { number-is = e ∙ q; passed = λ z. absurd (h (sym e ∙ z)) }
+  refused-as : {r k cycles t : ℕ} {o : Bool} → r ≡ k → (k ≡ 0 → ⊥) → k ≡ inputNumber mask plan sweeps llrs → InputTests mask plan sweeps llrs r cycles t o
+  refused-as e h q = record { number-is = e ∙ q; passed = λ z. absurd (h (sym e ∙ z)); ones-is = λ z. absurd (h (sym e ∙ z)) }
 
-  pub refused-mask : {r cycles t : ℕ} → r ≡ number → (number ≡ 0 → ⊥) → InputTests mask plan sweeps llrs r cycles t
+  pub refused-mask : {r cycles t : ℕ} {o : Bool} → r ≡ number → (number ≡ 0 → ⊥) → InputTests mask plan sweeps llrs r cycles t o
   refused-mask e h = refused-as e h (sym (unfold inputNumber in mask-refused m (countRows ++ laterRows) h))
 
   module _ (masked : number ≡ 0) where
     number-split : inputNumber mask plan sweeps llrs ≡ cond (eqb (refusal countRows) 0) (refusal laterRows) (refusal countRows)
     number-split = unfold inputNumber in mask-accepted m (countRows ++ laterRows) masked ∙ refusal-then countRows laterRows tt
 
-    pub refused-counts : {r k cycles t : ℕ} → r ≡ k → k ≡ refusal countRows → (k ≡ 0 → ⊥) → InputTests mask plan sweeps llrs r cycles t
+    pub refused-counts : {r k cycles t : ℕ} {o : Bool} → r ≡ k → k ≡ refusal countRows → (k ≡ 0 → ⊥) → InputTests mask plan sweeps llrs r cycles t o
     refused-counts e q h =
         refused-as e h (q ∙ sym (number-split ∙ ap (λ (b : Bool). cond b (refusal laterRows) (refusal countRows)) (ne-eqb (refusal countRows) 0 (λ z. h (q ∙ z)))))
 
@@ -50,7 +50,7 @@ module _ {mask : List ℕ} {number stage : ℕ} (plan : List ℕ) (sweeps : ℕ)
           number-split ∙ ap (λ (b : Bool). cond b (refusal laterRows) (refusal countRows)) (eq-eqb (refusal countRows) 0 counted) ∙ fault-then n mask plan (row-7 llrs ∷ [])
           ∙ ap (λ (t : ℕ). cond (eqb (faultNumber t mask plan) 0) (refusal (row-7 llrs ∷ [])) (faultNumber t mask plan)) (sym (m .passed masked .stage-is))
 
-      pub refused-plan : {r k cycles t : ℕ} → r ≡ k → k ≡ faultNumber stage mask plan → (k ≡ 0 → ⊥) → InputTests mask plan sweeps llrs r cycles t
+      pub refused-plan : {r k cycles t : ℕ} {o : Bool} → r ≡ k → k ≡ faultNumber stage mask plan → (k ≡ 0 → ⊥) → InputTests mask plan sweeps llrs r cycles t o
       refused-plan e q h =
           refused-as e h
           (q ∙ sym (number-later ∙ ap (λ (b : Bool). cond b (refusal (row-7 llrs ∷ [])) (faultNumber stage mask plan)) (ne-eqb (faultNumber stage mask plan) 0 (λ z. h (q ∙ z)))))
@@ -62,14 +62,14 @@ module _ {mask : List ℕ} {number stage : ℕ} (plan : List ℕ) (sweeps : ℕ)
             (number-later ∙ ap (λ (b : Bool). cond b (refusal (row-7 llrs ∷ [])) (faultNumber stage mask plan)) (eq-eqb (faultNumber stage mask plan) 0 planned)
             ∙ ap (λ (b : Bool). cond b 0 7) q)
 
-        pub refused-llrs : {r cycles t : ℕ} → r ≡ 7 → llrsInRange llrs ≡ false → InputTests mask plan sweeps llrs r cycles t
+        pub refused-llrs : {r cycles t : ℕ} {o : Bool} → r ≡ 7 → llrsInRange llrs ≡ false → InputTests mask plan sweeps llrs r cycles t o
         refused-llrs e q = refused-as e (λ z. omega arith) (number-last q)
 
         fault-cycles : faultCycles stage mask plan ≡ model.cycles plan stage 1 mask
         unfolding faultCycles
         fault-cycles = ap (λ (b : Bool). cond b (model.cycles plan stage 1 mask) 0) (eq-eqb (faultNumber stage mask plan) 0 planned)
 
-        pub passed-as : {cycles : ℕ} → llrsInRange llrs ≡ true → cycles ≡ faultCycles stage mask plan → InputTests mask plan sweeps llrs 0 cycles stage
+        pub passed-as : {cycles : ℕ} → llrsInRange llrs ≡ true → cycles ≡ faultCycles stage mask plan → InputTests mask plan sweeps llrs 0 cycles stage ones
         passed-as q c =
             let count : (eqb (length llrs) (length mask) ≡ true) × (refusal (row-4 sweeps ∷ []) ≡ 0) = passes 3 (eqb (length llrs) (length mask)) (row-4 sweeps ∷ []) (λ z. omega arith) counted in
             let fit : T (leb 1 sweeps && leb sweeps maxSweeps) = true-T (leb 1 sweeps && leb sweeps maxSweeps) (passes 4 (leb 1 sweeps && leb sweeps maxSweeps) [] (λ z. omega arith) (count .1) .0) in
@@ -84,4 +84,5 @@ module _ {mask : List ℕ} {number stage : ℕ} (plan : List ℕ) (sweeps : ℕ)
                 range = true-T (llrsInRange llrs) q;
                 cycles-is = c ∙ fault-cycles;
               };
+              ones-is = λ _. m .ones-is masked;
             }

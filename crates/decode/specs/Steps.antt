@@ -1,10 +1,12 @@
 -- What the parts of a decode require and find. Assumes nothing.
 use mathlib.Core.Path.{_≡_}
+use mathlib.Core.Bool.{Bool, not}
 use mathlib.Core.List.{List, [], _∷_}
 use Prim.Native.Nat.{ℕ, _≤_, _<_}
 use lib.Dec.{T}
 use lib.IntN.{ℤ}
 use lib.ListN.{length}
+use Rattle.model.specs.Lists.{atMost}
 use Rattle.model.specs.Plans.{Allowed}
 use Rattle.model.specs.Refusals.{refusal, row-1, row-2, row-3, row-4, row-5, row-6, row-7, exponent, maxSweeps, llrsInRange}
 use Rattle.inputs.specs.Tests.{MaskPassed}
@@ -27,7 +29,8 @@ pub record Passed (mask plan : List ℕ) (sweeps : ℕ) (llrs : List ℤ) (cycle
   pub range : T (llrsInRange llrs)
   pub cycles-is : cycles ≡ plans.cycles plan stage 1 mask
 
--- what the tests of the inputs find
-pub record InputTests (mask plan : List ℕ) (sweeps : ℕ) (llrs : List ℤ) (number cycles stage : ℕ) : Type 0 where
+-- what the tests of the inputs find; `ones` says whether a position is frozen to 1
+pub record InputTests (mask plan : List ℕ) (sweeps : ℕ) (llrs : List ℤ) (number cycles stage : ℕ) (ones : Bool) : Type 0 where
   pub number-is : number ≡ inputNumber mask plan sweeps llrs
   pub passed : number ≡ 0 → Passed mask plan sweeps llrs cycles stage
+  pub ones-is : number ≡ 0 → ones ≡ not (atMost 1 mask)

@@ -48,11 +48,12 @@ fn in_range(llrs: &[i16]) -> bool
     good
 }
 
-// What the tests of the inputs find: the number, and where it is 0 the cycles of one sweep and the exponent of N.
+// What the tests of the inputs find: the number, and where it is 0 the cycles of one sweep, the exponent of N, and whether a position is frozen to 1.
 struct Tested {
     number: u32,
     cycles: u32,
     stage: usize,
+    ones: bool,
 }
 
 fn refused(number: u32) -> Tested
@@ -62,6 +63,7 @@ fn refused(number: u32) -> Tested
         number,
         cycles: 0,
         stage: 0,
+        ones: false,
     }
 }
 
@@ -77,7 +79,7 @@ fn count_tests(size: usize, llrs: usize, sweeps: usize) -> u32
 
 // Tests 1 to 7.
 fn input_tests(mask: &[u8], plan: &[u8], sweeps: usize, llrs: &[i16]) -> Tested
-    ensures { λ r. ⌜ InputTests (now (mask .entry)) (now (plan .entry)) sweeps (now (llrs .entry)) (r .number) (r .cycles) (r .stage) ⌝ }
+    ensures { λ r. ⌜ InputTests (now (mask .entry)) (now (plan .entry)) sweeps (now (llrs .entry)) (r .number) (r .cycles) (r .stage) (r .ones) ⌝ }
 {
     let masked = mask_tests(mask);
     if masked.number != 0 {
@@ -98,6 +100,7 @@ fn input_tests(mask: &[u8], plan: &[u8], sweeps: usize, llrs: &[i16]) -> Tested
         number: 0,
         cycles: planned.cycles,
         stage: masked.stage,
+        ones: masked.ones,
     }
 }
 
@@ -156,7 +159,19 @@ pub fn decode(
     if short != 0 {
         return answer(short, 0, 0, 0);
     }
-    soft_values(mask, plan, llrs, sweeps, size, stage, soft, work);
+    // The front of the hard word is room for the word of the frozen values; the bits are written over it.
+    soft_values(
+        mask,
+        plan,
+        llrs,
+        &mut hard[..size],
+        input.ones,
+        sweeps,
+        size,
+        stage,
+        soft,
+        work,
+    );
     fill(work, 0, words, 0);
     let read = read_off(mask, llrs, soft, hard, payload, size, stage, k);
     let cycles = sweeps as u32 * input.cycles;

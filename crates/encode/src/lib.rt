@@ -1,29 +1,20 @@
 // The encoder.
 use inputs::UNFROZEN;
 use inputs::at_most;
+use inputs::known_bit;
 use inputs::mask_tests;
 use inputs::tested;
-use inputs::unfrozen_bit;
 use inputs::unfrozen_of;
 use transform::strides;
 ghost use mathlib.Core.Path.{_≡_};
-ghost use mathlib.Core.Bool.{true, cond};
 ghost use mathlib.Core.List.{[], _∷_};
-ghost use Prim.Native.Nat.{_≤_, _<_};
-ghost use lib.ListN.{length, getD};
+ghost use Prim.Native.Nat.{_≤_};
+ghost use lib.ListN.{length};
 ghost use Rattle.model.specs.Lists.{over};
-ghost use Rattle.model.specs.Encoding.{isUnfrozen, unfrozen, place};
+ghost use Rattle.model.specs.Encoding.{unfrozen, place};
 ghost use Rattle.model.specs.Refusals.{refusal, row-3, row-10, row-11, encodeNumber, encodeWord};
 
-// The bit that goes to a position: the next payload bit if it is unfrozen, and else 0.
-fn bit_for(byte: u8, payload: &[u8], next: usize) -> u8
-    requires { ⌜ (isUnfrozen byte ≡ true → next < length (now payload)) ⌝ }
-    ensures { λ r. ⌜ r ≡ cond (isUnfrozen byte) (getD (now (payload .entry)) next 0) 0 ⌝ }
-{
-    if byte == UNFROZEN { payload[next] } else { 0 }
-}
-
-// The payload to the unfrozen positions in rising order, zeros elsewhere.
+// The payload to the unfrozen positions in rising order, the known bits elsewhere.
 fn place_bits(mask: &[u8], payload: &[u8], word: &mut [u8])
     requires { ⌜ (length (now payload) ≡ unfrozen (now mask)) × (length (now mask) ≤ length (now word)) ⌝ }
     ensures { λ _. ⌜ now (word .exit) ≡ over (place (now (mask .entry)) (now (payload .entry))) (now (word .entry)) ⌝ }
@@ -32,8 +23,12 @@ fn place_bits(mask: &[u8], payload: &[u8], word: &mut [u8])
     let mut i: usize = 0;
     while i < mask.len() {
         let byte = mask[i];
-        word[i] = bit_for(byte, payload, next);
-        next += unfrozen_bit(byte) as usize;
+        if byte == UNFROZEN {
+            word[i] = payload[next];
+            next += 1;
+        } else {
+            word[i] = known_bit(byte);
+        }
         i += 1;
     }
 }

@@ -1,25 +1,35 @@
 // Tests of inputs that several calls share.
 ghost use mathlib.Core.Path.{_≡_};
 ghost use mathlib.Core.Bool.{cond, _&&_};
-ghost use Prim.Native.Nat.{_≤_, max};
+ghost use Prim.Native.Nat.{ℕ, _≤_, max};
 ghost use lib.Dec.{leb};
 ghost use lib.ListN.{length};
 ghost use Rattle.model.specs.Lists.{atMost, bit};
-ghost use Rattle.model.specs.Encoding.{maxMask, unfrozen, isUnfrozen};
+ghost use Rattle.model.specs.Encoding.{unfrozen, isUnfrozen, isKnownOne};
 ghost use Rattle.model.specs.Refusals.{exponent, maxSweeps, isLlr};
 ghost use Rattle.inputs.specs.Tests.{MaskTests};
 
 // The mask byte of an unfrozen position; every other byte is a frozen one's.
 pub const UNFROZEN: u8 = 0;
 
+// The mask byte of a position that is frozen to 1.
+const FROZEN_TO_ONE: u8 = 2;
+
 // The largest mask byte.
-const MAX_MASK: u8 = 1;
+const MAX_MASK: u8 = 2;
 
 // Sweeps run from 1 to this.
 const MAX_SWEEPS: usize = 8;
 
 // An LLR is within ± this.
 const MAX_LLR: i32 = 32767;
+
+// The value that a position is frozen to; 0 for an unfrozen one.
+pub fn known_bit(byte: u8) -> u8
+    ensures { λ r. ⌜ r ≡ bit (isKnownOne byte) ⌝ }
+{
+    (byte == FROZEN_TO_ONE) as u8
+}
 
 // Whether both tests are passed.
 pub fn both(a: bool, b: bool) -> bool
@@ -32,16 +42,19 @@ pub fn both(a: bool, b: bool) -> bool
 pub fn exponent_of(size: usize) -> usize
     ensures { λ r. ⌜ r ≡ exponent size ⌝ }
 {
-    let mut t: usize = 10;
-    let mut power: usize = 1024;
-    while 0 < t {
-        if size == power {
-            return t;
-        }
-        t -= 1;
-        power /= 2;
+    match size {
+        2 => 1,
+        4 => 2,
+        8 => 3,
+        16 => 4,
+        32 => 5,
+        64 => 6,
+        128 => 7,
+        256 => 8,
+        512 => 9,
+        1024 => 10,
+        _ => 0,
     }
-    0
 }
 
 // The larger of two bytes.
@@ -51,9 +64,9 @@ pub fn larger(a: u8, b: u8) -> u8
     if a < b { b } else { a }
 }
 
-// Whether no byte is above top.
-pub fn at_most(bytes: &[u8], top: u8) -> bool
-    ensures { λ r. ⌜ r ≡ atMost top (now (bytes .entry)) ⌝ }
+// The largest byte: what no byte is above, it is not above either.
+fn largest(bytes: &[u8]) -> u8
+    ensures { λ r. ⌜ ((top : ℕ) → leb r top ≡ atMost top (now (bytes .entry))) ⌝ }
 {
     let mut most: u8 = 0;
     let mut i = 0;
@@ -61,18 +74,18 @@ pub fn at_most(bytes: &[u8], top: u8) -> bool
         most = larger(most, bytes[i]);
         i += 1;
     }
-    most <= top
+    most
 }
 
-// Whether no byte of a mask is too large.
-fn mask_bytes(mask: &[u8]) -> bool
-    ensures { λ r. ⌜ r ≡ atMost maxMask (now (mask .entry)) ⌝ }
+// Whether no byte is above top.
+pub fn at_most(bytes: &[u8], top: u8) -> bool
+    ensures { λ r. ⌜ r ≡ atMost top (now (bytes .entry)) ⌝ }
 {
-    at_most(mask, MAX_MASK)
+    largest(bytes) <= top
 }
 
 // 1 for an unfrozen position, 0 for a frozen one.
-pub fn unfrozen_bit(byte: u8) -> u16
+fn unfrozen_bit(byte: u8) -> u16
     ensures { λ r. ⌜ r ≡ bit (isUnfrozen byte) ⌝ }
 {
     if byte == UNFROZEN { 1 } else { 0 }
@@ -99,20 +112,27 @@ pub fn tested(passed: bool, after: u32, number: u32) -> u32
     if passed { after } else { number }
 }
 
-// What tests 1 and 2 of a mask find: the number, and the exponent of N if it is 0.
+// What tests 1 and 2 of a mask find: the number, and if it is 0 the exponent of N and whether a position is frozen to 1.
 pub struct Masked {
     pub number: u32,
     pub stage: usize,
+    pub ones: bool,
 }
 
 // Tests 1 and 2, which all calls with a mask begin with.
 pub fn mask_tests(mask: &[u8]) -> Masked
-    ensures { λ r. ⌜ MaskTests (now (mask .entry)) (r .number) (r .stage) ⌝ }
+    ensures { λ r. ⌜ MaskTests (now (mask .entry)) (r .number) (r .stage) (r .ones) ⌝ }
 {
     let stage = exponent_of(mask.len());
-    let second = tested(mask_bytes(mask), 0, 2);
+    let most = largest(mask);
+    let second = tested(most <= MAX_MASK, 0, 2);
     let number = tested(stage != 0, second, 1);
-    Masked { number, stage }
+    let ones = most == FROZEN_TO_ONE;
+    Masked {
+        number,
+        stage,
+        ones,
+    }
 }
 
 // Whether the number of sweeps is allowed.

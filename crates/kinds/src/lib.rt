@@ -181,13 +181,13 @@ fn is_rate_one(mask: &[u8]) -> bool
     mask[0] == UNFROZEN
 }
 
-// What is known of a node's message whatever the node is handed: it is certain everywhere, or 0 everywhere.
+// What is known of a node's message whatever the node is handed, a mask byte 2 being read as 1: it is ∞ everywhere, or 0 everywhere.
 pub struct Fixed {
     pub certain: bool,
     pub zero: bool,
 }
 
-// A cut rate-0 node's message is certain, a cut rate-1 node's is 0. Node q has s positions from b on.
+// A cut rate-0 node's message is ∞, a cut rate-1 node's is 0. Node q has s positions from b on.
 pub fn fixed_message(plan: &[u8], mask: &[u8], q: usize, b: usize, s: usize) -> Fixed
     requires { ⌜ (q < length (now plan)) × (b + s ≤ length (now mask)) ⌝ }
     requires { ⌜ (isCut (now plan) q ≡ true → T (isSome (kindOf s (part (now mask) b s)))) ⌝ }

@@ -18,10 +18,10 @@ use Rattle.model.specs.Bounds.{Under, limit}
 use Rattle.model.specs.Plans.{Allowed, isPlan, oneCut, cutsOfKinds, cycles}
 use Rattle.model.specs.Refusals.{exponent, maxSweeps, planNumber, DecodeCall, decodeNumber, decodeAnswer, decodeCycles, decodeCheck, decodeUndecided, decodeSoft, decodeHard, decodePayload}
 use Rattle.model.proofs.Lists.{T-true, true-T, length-tabulate}
-use Rattle.model.proofs.Bounds.{soft-under, cap-limit, under-mono}
+use Rattle.model.proofs.Bounds.{ones-any, soft-under, cap-limit, under-mono}
+use Rattle.model.proofs.Flips.{length-soft}
 use Rattle.model.proofs.Refusals.{pass, none-left, exponent-power, llrs-small}
 use Rattle.decode.specs.Calls.{Lent, given, callOf, Outcome}
-use Rattle.decode.proofs.Answers.{scan-length}
 use Rattle.reader.specs.Steps.{Fit}
 use Rattle.printer.specs.Text.{okText, decoded}
 use Rattle.printer.proofs.Whole.{softs-back}
@@ -57,7 +57,7 @@ unfolding planNumber
 plan-accepted {mask} f room e =
     let few : length mask ≤ 1024 = f .small in
     pass 1 _ _ (rw (ne-eqb (exponent (length mask)) 0 (f .allowed)))
-    (pass 2 _ _ (f .bits)
+    (pass 2 _ _ (f .bytes)
     (pass 11 _ _ (le-leb (2 * length mask) room (omega arith)) none-left))
 
 module _ (mask plan : List ℕ) (k : ℕ) (llrs : List ℤ) (f : Fit mask k llrs) (A : Allowed (exponent (length mask)) plan mask) where
@@ -89,7 +89,7 @@ module _ (mask plan : List ℕ) (k : ℕ) (llrs : List ℤ) (f : Fit mask k llrs
     number-zero =
         let few : N ≤ 1024 = f .small in
         pass 1 _ _ (rw (ne-eqb n 0 (f .allowed)))
-        (pass 2 _ _ (f .bits)
+        (pass 2 _ _ (f .bytes)
         (pass 3 _ _ (eq-eqb (length llrs) N (f .same))
         (pass 4 _ _ (both-true (le-leb 1 k (f .some)) (le-leb k maxSweeps (f .most)))
         (pass 5 _ _ (T-true (isPlan n plan) (A .bytes))
@@ -104,10 +104,10 @@ module _ (mask plan : List ℕ) (k : ℕ) (llrs : List ℤ) (f : Fit mask k llrs
     accept : eqb (decodeNumber call) 0 ≡ true
     accept = eq-eqb (decodeNumber call) 0 number-zero
 
-    under : (j : ℕ) → j < 2 ^ n → Under limit (scan n mask (map finite llrs) k at j)
+    under : (j : ℕ) → j < 2 ^ n → Under true limit (scan n mask (map finite llrs) k at j)
     under j lt =
-        under-mono (scan n mask (map finite llrs) k at j) (let c = cap-limit n (exponent-power N (f .allowed) .1) in omega arith)
-        (soft-under n mask (map finite llrs) (llrs-small n llrs (true-T _ (f .range))) k j lt)
+        under-mono true (scan n mask (map finite llrs) k at j) (let c = cap-limit n (exponent-power N (f .allowed) .1) in omega arith)
+        (soft-under true n mask (ones-any n mask) (map finite llrs) (llrs-small n llrs (true-T _ (f .range))) k j lt)
 
     module _ {number c check undecided : ℕ} {after : Lent} (o : Outcome (given mask plan k llrs b) after number c check undecided) where
       cycles-are : c ≡ k * cycles plan n 1 mask
@@ -119,7 +119,7 @@ module _ (mask plan : List ℕ) (k : ℕ) (llrs : List ℤ) (f : Fit mask k llrs
       answer-is K eK =
           let sized : N ≡ 2 ^ n = exponent-power N (f .allowed) .0 in
           let S : List Soft = scan n mask (map finite llrs) k in
-          let long : length S ≡ 2 ^ n = scan-length n (f .allowed) mask (map finite llrs) k in
+          let long : length S ≡ 2 ^ n = length-soft n mask (map finite llrs) k in
           parts answer (map softOf (take N (after .soft))) (take N (after .hard)) (take K (after .payload)) check undecided
           (ap (λ (l : List ℤ). map softOf (take N l)) (o .left .soft-is ∙ rw accept)
           ∙ ap (map softOf) (front N (map wordOf S) (b .soft) (length-map S wordOf ∙ long ∙ sym sized))

@@ -9,7 +9,7 @@ use lib.IntN.{ℤ, pos, natAbs, negℤ, _+ℤ_, _-ℤ_, +ℤ-assoc, +ℤ-comm}
 use lib.ListN.{length}
 use lib.Dec.{eqb}
 use Rattle.model.specs.Lists.{total}
-use Rattle.model.specs.Soft.{Soft, finite, certain, softZero, _at_, box, plus, mark, negative, signed, differ, wordOf}
+use Rattle.model.specs.Soft.{Soft, finite, certain, certainOne, softZero, _at_, box, plus, mark, negative, signed, differ, wordOf}
 use Rattle.model.specs.Kinds.{others, classes, typeII, typeIV}
 use Rattle.model.proofs.Lists.{Monoid}
 use Rattle.model.proofs.Algebra.{box-monoid, plus-monoid, box-comm}
@@ -81,7 +81,8 @@ room-leasts l h long =
 -- a soft value by its word
 finite-of : (v : Soft) (z : ℤ) → wordOf v ≡ z → natAbs z < mark → v ≡ finite z
 finite-of (finite y) z e h = ap finite e
-finite-of certain z e h = let n : natAbs (pos mark) ≡ natAbs z = ap natAbs e in absurd (omega arith)
+finite-of certain z e h = absurd (omega (arith, ap natAbs e))
+finite-of certainOne z e h = absurd (omega (arith, ap natAbs e))
 
 swap-last : (t x b : ℤ) → (t +ℤ b) -ℤ x ≡ (t -ℤ x) +ℤ b
 swap-last t x b = +ℤ-assoc t b (negℤ x) ∙ ap (λ (z : ℤ). t +ℤ z) (+ℤ-comm b (negℤ x)) ∙ sym (+ℤ-assoc t (negℤ x) b)

@@ -67,7 +67,7 @@ module _ (w : List ℤ) (x s : ℕ) (fit : x + s ≤ length w) (inc : Incoming w
   part-same : (k : ℕ) → k < s → soft w x s at k ≡ finite (word (partOf w x s) k)
   part-same k lt =
       soft-at w x s k lt
-      ∙ soft-fin (word w (x + k)) (λ e. let f : natAbs (word w (x + k)) ≡ mark = ap natAbs e in omega (arith, inc .small k lt, bound-mark (omega arith)))
+      ∙ soft-fin (word w (x + k)) (λ e. omega (arith, e, inc .small k lt, bound-mark (omega arith)))
       ∙ ap finite (sym (part-at k lt))
 
   pub part-sizes : sizes (partOf w x s) ≤ mark

@@ -15,7 +15,7 @@ use Rattle.model.proofs.Lists.{Monoid, total-ext, and-true, getD-tabulate}
 use Rattle.model.proofs.Algebra.{plus-monoid, box-monoid, signed-zero}
 use Rattle.model.proofs.Bounds.{abs-signed}
 use Rattle.words.specs.Words.{Word, word}
-use Rattle.words.proofs.Laws.{boxZ, boxℤ-is, box-mark-l, box-mark-r}
+use Rattle.words.proofs.Laws.{boxZ, word-box}
 use Rattle.classes.specs.Sums.{strided, sumZ, sizes, sumOf}
 use Rattle.classes.specs.LeastSizes.{least, next, parity, gatherClass}
 use Rattle.classes.proofs.Strided.{class-next, class-at, class-lt}
@@ -113,12 +113,6 @@ unfolding plus sumZ
 sums = record { monoid = plus-monoid; none = refl; more = λ x v t _ r. ap (plus (finite x)) r }
 
 -- ---- box
-enc-box : (a b : Soft) → Word (wordOf a) → Word (wordOf b) → wordOf (box a b) ≡ boxZ (wordOf a) (wordOf b)
-unfolding box
-enc-box certain b ha hb = sym (box-mark-l (wordOf b) hb)
-enc-box (finite a) certain ha hb = sym (box-mark-r a ha)
-enc-box (finite a) (finite b) ha hb = boxℤ-is a b
-
 -- the sign of a 0 does not matter
 sign-min : (a p : Bool) (n m : ℕ) → signed (differ a (negative (signed p m))) (min n m) ≡ signed (differ a p) (min n m)
 sign-min a true n zero = let e : min n 0 ≡ 0 = omega arith in rw e (signed-zero (differ a false) ∙ sym (signed-zero (differ a true)))
@@ -132,7 +126,7 @@ boxes =
       monoid = box-monoid;
       none = refl;
       more = λ x v t h r.
-          enc-box (finite x) v h (rw (r, abs-signed (parity t) (least t)) (least-mark t))
+          word-box (finite x) v h (rw (r, abs-signed (parity t) (least t)) (least-mark t))
           ∙ ap (boxZ x) r
           ∙ ap (λ (m : ℕ). signed (differ (negative x) (negative (signed (parity t) (least t)))) (min (natAbs x) m)) (abs-signed (parity t) (least t))
           ∙ sign-min (negative x) (parity t) (natAbs x) (least t);

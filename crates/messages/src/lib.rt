@@ -23,7 +23,7 @@ ghost use Rattle.kinds.specs.Runs.{kindNamed};
 ghost use Rattle.classes.specs.Sums.{Period};
 ghost use Rattle.messages.specs.Cut.{cutWords, sumBy, boxBy, messageWords, Sized, leastOf};
 
-// The message of a rate-0 node: certain everywhere, whatever its incoming list L is.
+// The message of a rate-0 node: ∞ everywhere, a mask byte 2 being read as 1, whatever its incoming list L is.
 pub fn rate_zero_message(w: &mut [i32], m: usize, s: usize)
     requires { ⌜ m + s ≤ length (now w) ⌝ }
     ensures { λ _. ⌜ ((L : List Soft) → now (w .exit) ≡ stored (now (w .entry)) m s (shortcut rate-0 s L)) ⌝ }

@@ -35,7 +35,7 @@ cycles-planned : (n : ℕ) (mask : List ℕ) → Mask n mask → cyclesFrom (cou
 unfolding counts
 cycles-planned n mask M = sym (cycles-counted (plannerPlan n mask) n 1 mask (allowed-cuts n (plannerPlan n mask) mask (planner-allowed n mask M)))
 
-module _ {mask : List ℕ} {number t : ℕ} (plan : List ℕ) (m : MaskTests mask number t) where
+module _ {mask : List ℕ} {number t : ℕ} {ones : Bool} (plan : List ℕ) (m : MaskTests mask number t ones) where
   pub plan-refused : (number ≡ 0 → ⊥) → Answer mask plan number (replicate (length order) 0) 0 plan
   plan-refused h = refused mask plan number (unfold planNumber in mask-refused m (row-11 (2 * length mask) (length plan) ∷ []) h) h
 

@@ -118,7 +118,7 @@ module _ (n : ℕ) (mask plan : List ℕ) where
       go false b = refl
 
 -- ---- the check's answers: rows 5 and 6 follow rows 1 and 2
-module _ {mask : List ℕ} {number stage : ℕ} (plan : List ℕ) (m : MaskTests mask number stage) where
+module _ {mask : List ℕ} {number stage : ℕ} {ones : Bool} (plan : List ℕ) (m : MaskTests mask number stage ones) where
   pub check-refused : (number ≡ 0 → ⊥) → (number ≡ checkNumber mask plan) × (0 ≡ checkCycles mask plan)
   unfolding checkNumber checkCycles
   check-refused h =

@@ -12,7 +12,7 @@ use borrow.Author.Tests.{lt-ltb, le-leb, ltb-true, ltb-false, leb-true, ne-eqb}
 use mir.Syntax.{w32}
 use mir.Val.{SFits}
 use Rattle.model.specs.Lists.{same}
-use Rattle.model.specs.Soft.{Soft, finite, certain}
+use Rattle.model.specs.Soft.{Soft, finite, certain, certainOne}
 use Rattle.model.specs.Scan.{Decoded}
 use Rattle.fields.specs.Grammar.{firstOf, lineOf, fields, onFirst, isDigit, allDigits, digit, valueFrom, decimal, hasMinus, unsigned, isNumber, value}
 use Rattle.fields.proofs.Split.{and-both}
@@ -185,6 +185,7 @@ unfolding softText intText allFrom
 soft-clean (finite (pos n)) = nat-clean n
 soft-clean (finite (negsuc n)) = nat-clean (suc n)
 soft-clean certain = refl
+soft-clean certainOne = refl
 
 softs-clean : (ss : List Soft) → allClean (map softText ss) ≡ true
 unfolding allClean
@@ -225,7 +226,7 @@ no-fields number = fields-back no (natText number ∷ []) refl (rw (nat-clean nu
 
 -- the soft value that a field says
 pub readSoft : List ℕ → Soft
-readSoft f = cond (same f inf) certain (finite (value f))
+readSoft f = cond (same (unsigned f) inf) (cond (hasMinus f) certainOne certain) (finite (value f))
 
 -- digits are not `inf`
 not-inf : (t : List ℕ) → allDigits t ≡ true → same t inf ≡ false
@@ -238,8 +239,9 @@ not-inf (b ∷ t) e =
 pub soft-read : (s : Soft) → readSoft (softText s) ≡ s
 unfolding readSoft softText same intText
 soft-read certain = refl
-soft-read (finite (pos n)) = rw (not-inf (natText n) (nat-right n .all)) (ap finite (value-back (pos n)))
-soft-read (finite (negsuc n)) = ap finite (value-back (negsuc n))
+soft-read certainOne = refl
+soft-read (finite (pos n)) = let r = nat-right n .all in rw (no-minus (natText n) r .1, not-inf (natText n) r) (ap finite (value-back (pos n)))
+soft-read (finite (negsuc n)) = rw (not-inf (natText (suc n)) (nat-right (suc n) .all)) (ap finite (value-back (negsuc n)))
 
 softs-read : (ss : List Soft) → map readSoft (map softText ss) ≡ ss
 softs-read [] = refl

@@ -1,9 +1,9 @@
--- Document 01's answer as request No. 8 amends it, an answer with ∞ and no payload, one with an undecided bit, and a refusal. Assumes nothing.
+-- Document 01's answer as request No. 8 amends it, an answer with ∞ and no payload, one with -∞, one with an undecided bit, and a refusal. Assumes nothing.
 use mathlib.Core.Path.{_≡_, refl}
 use mathlib.Core.List.{[], _∷_}
 use Prim.Native.Nat.{ℕ}
 use lib.IntN.{pos, negℤ}
-use Rattle.model.specs.Soft.{Soft, finite, certain}
+use Rattle.model.specs.Soft.{Soft, finite, certain, certainOne}
 use Rattle.printer.specs.Text.{digitsIn, natText, intText, softText, bitsText, payloadText, spaced, lineText, okFields, okText, noText, decoded}
 
 abbrev p : ℕ → Soft
@@ -23,6 +23,12 @@ pub none : okText 0 (decoded (certain ∷ certain ∷ []) (0 ∷ 0 ∷ []) [] 1 
     ≡ 111 ∷ 107 ∷ 32 ∷ 48 ∷ 32 ∷ 105 ∷ 110 ∷ 102 ∷ 32 ∷ 105 ∷ 110 ∷ 102 ∷ 32 ∷ 48 ∷ 48 ∷ 32 ∷ 45 ∷ 32 ∷ 49 ∷ 32 ∷ 48 ∷ 10 ∷ []
 unfolding okText lineText okFields spaced softText intText natText digitsIn bitsText payloadText
 none = refl
+
+-- `ok 6 1 -2 -inf -inf 0111 0 0 0`
+pub ones : okText 6 (decoded (p 1 ∷ m 2 ∷ certainOne ∷ certainOne ∷ []) (0 ∷ 1 ∷ 1 ∷ 1 ∷ []) (0 ∷ []) 0 0)
+    ≡ 111 ∷ 107 ∷ 32 ∷ 54 ∷ 32 ∷ 49 ∷ 32 ∷ 45 ∷ 50 ∷ 32 ∷ 45 ∷ 105 ∷ 110 ∷ 102 ∷ 32 ∷ 45 ∷ 105 ∷ 110 ∷ 102 ∷ 32 ∷ 48 ∷ 49 ∷ 49 ∷ 49 ∷ 32 ∷ 48 ∷ 32 ∷ 48 ∷ 32 ∷ 48 ∷ 10 ∷ []
+unfolding okText lineText okFields spaced softText intText natText digitsIn bitsText payloadText
+ones = refl
 
 -- `ok 0 0 0 21 22 0 1`
 pub tie : okText 0 (decoded (p 0 ∷ p 0 ∷ []) (2 ∷ 1 ∷ []) (2 ∷ 2 ∷ []) 0 1)

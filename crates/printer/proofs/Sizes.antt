@@ -2,17 +2,17 @@
 use mathlib.Core.Path.{_≡_, refl, sym, ap}
 use mathlib.Core.Bool.{Bool, true, false, cond}
 use mathlib.Core.List.{List, [], _∷_, _++_, map}
-use Prim.Native.Nat.{ℕ, zero, suc, _+_, _*_, _/_, _%_, _^_, _≤_, _<_}
+use Prim.Native.Nat.{ℕ, zero, suc, _+_, _*_, _/_, _%_, _^_, _≤_, _<_, zero-le}
 use native.Mathlib.Omega.{arith}
 use lib.Dec.{ltb, eqb}
 use lib.IntN.{ℤ, pos, negsuc}
 use lib.ListN.{length, length-append, length-map}
 use lib.Signed.{mag}
-use borrow.Author.Tests.{ltb-true, ltb-false}
-use Rattle.model.specs.Soft.{finite, certain, mark, softOf}
+use borrow.Author.Tests.{le-ltb, ltb-true, ltb-false}
+use Rattle.model.specs.Soft.{mark, softOf}
 use Rattle.model.specs.Scan.{Decoded}
-use Rattle.printer.specs.Text.{natText, intText, softText, bitText, bitsText, payloadText, spaced, okText, noText}
-use Rattle.printer.proofs.Texts.{nat-small, nat-large, okPieces, ok-pieces, no-pieces}
+use Rattle.printer.specs.Text.{inf, natText, softText, sizeText, bitText, bitsText, payloadText, spaced, okText, noText}
+use Rattle.printer.proofs.Texts.{nat-small, nat-large, soft-negative, soft-plain, okPieces, ok-pieces, no-pieces}
 
 -- 10, 100, 1000, ..
 abbrev pub lim : ℕ → ℕ
@@ -28,19 +28,16 @@ nat-length (suc k) n h = go (ltb n 10) refl (nat-length k (n / 10) (omega arith)
     go true e f = omega (arith, ap length (nat-small n (ltb-true n 10 e)))
     go false e f = omega (arith, ap length (nat-large n (ltb-false n 10 e)), length-append (natText (n / 10)) ((48 + n % 10) ∷ []))
 
-int-eleven : (z : ℤ) → mag z < 2 ^ 31 → length (intText z) ≤ 11
-unfolding intText
-int-eleven (pos n) h = let f : length (natText n) ≤ 10 = nat-length 9 n (omega arith) in omega arith
-int-eleven (negsuc n) h = let f : length (natText (suc n)) ≤ 10 = nat-length 9 (suc n) (omega arith) in omega arith
+size-ten : (n : ℕ) → n ≤ 2 ^ 31 → length (sizeText n) ≤ 10
+size-ten n h = go (eqb n mark)
+  where
+    go : (t : Bool) → length (cond t inf (natText n)) ≤ 10
+    go true = omega arith
+    go false = nat-length 9 n (omega arith)
 
 pub soft-eleven : (z : ℤ) → mag z < 2 ^ 31 → length (softText (softOf z)) ≤ 11
-unfolding softText
-soft-eleven (pos n) h = go (eqb n mark)
-  where
-    go : (t : Bool) → length (softText (cond t certain (finite (pos n)))) ≤ 11
-    go true = omega arith
-    go false = int-eleven (pos n) h
-soft-eleven (negsuc n) h = int-eleven (negsuc n) h
+soft-eleven (pos n) h = omega (arith, size-ten n (omega arith), ap length (soft-plain n (pos n) (le-ltb n 0 zero-le) refl))
+soft-eleven (negsuc n) h = omega (arith, size-ten (suc n) (omega arith), ap length (soft-negative (suc n) (negsuc n) refl refl))
 
 bits-length : (s : List ℕ) → length (bitsText s) ≡ length s
 unfolding bitsText

@@ -5,17 +5,15 @@ use mathlib.Core.List.{List, [], _∷_, _++_, map, append-assoc, append-nil}
 use Prim.Native.Nat.{ℕ, zero, suc, _+_, _/_, _%_, _≤_, _<_}
 use native.Mathlib.Numerals.{add-one}
 use native.Mathlib.Omega.{arith}
-use lib.Dec.{T, ltb}
+use lib.Dec.{T, ltb, eqb}
 use lib.IntN.{ℤ, pos, negsuc, natAbs}
 use lib.ListN.{length, drop, getD, drop-of-length-le}
 use lib.Seq.{drop-cons}
 use lib.Signed.{ltZ}
-use borrow.Author.Tests.{lt-ltb, le-ltb, ltb-true, ltb-false, eq-eqb, ne-eqb}
-use mir.Syntax.{w32}
-use mir.Val.{SFits, ofZ}
-use Rattle.model.specs.Soft.{mark, softOf}
+use borrow.Author.Tests.{lt-ltb, le-ltb, ltb-true, ltb-false}
+use Rattle.model.specs.Soft.{finite, certain, certainOne, mark, softOf}
 use Rattle.model.specs.Scan.{Decoded}
-use Rattle.printer.specs.Text.{inf, digitsIn, natText, intText, softText, bitText, bitsText, payloadText, spaced, lineText, okFields, okText, noText}
+use Rattle.printer.specs.Text.{inf, digitsIn, natText, intText, softText, sizeText, bitText, bitsText, payloadText, spaced, lineText, okFields, okText, noText}
 
 -- ---- decimal digits
 
@@ -40,27 +38,25 @@ unfolding natText digitsIn
 nat-large n h =
     rw (le-ltb n 10 h) (ap (λ (r : List ℕ). r ++ ((48 + n % 10) ∷ [])) (enough (suc (n / 10)) n (n / 10) (omega arith) (omega arith)))
 
--- ---- signed numbers and soft values
+-- ---- soft values, by the sign and the size of their words
 module _ (n : ℕ) where
-  pub int-negative : (z : ℤ) → ltZ z (pos 0) ≡ true → n ≡ natAbs z → 45 ∷ natText n ≡ intText z
-  unfolding intText
-  int-negative (pos m) e p = absurd (omega (arith, ltb-true m 0 e))
-  int-negative (negsuc m) e p = rw p
+  pub soft-negative : (z : ℤ) → ltZ z (pos 0) ≡ true → n ≡ natAbs z → 45 ∷ sizeText n ≡ softText (softOf z)
+  unfolding softText intText
+  soft-negative (pos m) e p = absurd (omega (arith, ltb-true m 0 e))
+  soft-negative (negsuc m) e p = rw p (go (eqb (suc m) mark))
+    where
+      go : (t : Bool) → 45 ∷ cond t inf (natText (suc m)) ≡ softText (cond t certainOne (finite (negsuc m)))
+      go true = refl
+      go false = refl
 
-  pub int-plain : (z : ℤ) → ltZ z (pos 0) ≡ false → n ≡ natAbs z → natText n ≡ intText z
-  unfolding intText
-  int-plain (pos m) e p = rw p
-  int-plain (negsuc m) e p = absurd (subst T e tt)
-
-pub soft-certain : (z : ℤ) → SFits w32 z → ofZ w32 z ≡ mark → inf ≡ softText (softOf z)
-unfolding softText
-soft-certain (pos n) f e = rw (eq-eqb n mark e)
-soft-certain (negsuc n) f e = absurd (omega (arith, f .sfits))
-
-pub soft-finite : (z : ℤ) → (ofZ w32 z ≡ mark → ⊥) → intText z ≡ softText (softOf z)
-unfolding softText
-soft-finite (pos n) e = rw (ne-eqb n mark e)
-soft-finite (negsuc n) e = refl
+  pub soft-plain : (z : ℤ) → ltZ z (pos 0) ≡ false → n ≡ natAbs z → sizeText n ≡ softText (softOf z)
+  unfolding softText intText
+  soft-plain (negsuc m) e p = absurd (subst T e tt)
+  soft-plain (pos m) e p = rw p (go (eqb m mark))
+    where
+      go : (t : Bool) → cond t inf (natText m) ≡ softText (cond t certain (finite (pos m)))
+      go true = refl
+      go false = refl
 
 -- ---- lists: what is still to come after i pieces
 abbrev pub softsFrom : List ℤ → ℕ → List ℕ

@@ -51,10 +51,10 @@ module _ {t o o₁ : List ℕ} {j most : ℕ} (p : Printed t most o o₁ j) (h :
       rw (whole-length, p .bytes, take-all (length o) t n) (take-at t (drop (length t) o) (length t) refl)
 
 -- ---- soft values within the limit come back from their words
-pub softs-back : (ss : List Soft) → ((k : ℕ) → k < length ss → Under limit (ss at k)) → map softOf (map wordOf ss) ≡ ss
+pub softs-back : (ss : List Soft) → ((k : ℕ) → k < length ss → Under true limit (ss at k)) → map softOf (map wordOf ss) ≡ ss
 softs-back [] h = refl
 softs-back (s ∷ ss) h =
-    ap₂ (λ (x : Soft) (l : List Soft). x ∷ l) (soft-word limit s (omega arith) (h 0 (omega arith))) (softs-back ss (λ k l. h (suc k) (omega arith)))
+    ap₂ (λ (x : Soft) (l : List Soft). x ∷ l) (soft-word true limit s (omega arith) (h 0 (omega arith))) (softs-back ss (λ k l. h (suc k) (omega arith)))
 
 -- the same text, with more room
 pub reprinted : {t t′ o o₁ : List ℕ} {j most most′ : ℕ} → t ≡ t′ → most ≤ most′ → Printed t most o o₁ j → Printed t′ most′ o o₁ j

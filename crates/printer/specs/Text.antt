@@ -4,7 +4,7 @@ use mathlib.Core.List.{List, [], _∷_, _++_, map}
 use Prim.Native.Nat.{ℕ, zero, suc, _+_, _/_, _%_}
 use lib.Dec.{ltb, eqb}
 use lib.IntN.{ℤ, pos, negsuc}
-use Rattle.model.specs.Soft.{Soft, finite, certain}
+use Rattle.model.specs.Soft.{Soft, finite, certain, certainOne, mark}
 use Rattle.model.specs.Scan.{Decoded}
 use Rattle.fields.specs.Grammar.{feed, space, minus, digit0}
 
@@ -35,10 +35,15 @@ intText (negsuc n) = minus ∷ natText (suc n)
 
 -- ---- soft values, bits, the payload
 
--- ∞ as `inf`
+-- ∞ as `inf`, -∞ as `-inf`
 unfoldable pub softText : Soft → List ℕ
 softText (finite z) = intText z
 softText certain = inf
+softText certainOne = minus ∷ inf
+
+-- the size of a soft value by that of its word: behind a minus where the word is negative, this is its text
+abbrev pub sizeText : ℕ → List ℕ
+sizeText n = cond (eqb n mark) inf (natText n)
 
 -- the digit of 0, 1 or 2; a larger number, which no decode has, as 1
 abbrev pub bitText : ℕ → ℕ

@@ -1,11 +1,11 @@
 // Prints into a buffer that the caller lends: the line program's answer, and refusals, bytes and numbers, which `replay` and `drains` print too. Text that has no room is left out.
-use words::MARK;
+use words::MARK_SIZE;
 ghost use mathlib.Core.Path.{_≡_};
 ghost use mathlib.Core.List.{[], _∷_, map};
 ghost use Prim.Native.Nat.{_+_, _*_, _<_, _≤_};
 ghost use lib.IntN.{natAbs};
 ghost use lib.ListN.{length};
-ghost use Rattle.printer.specs.Text.{natText, intText, softText, bitText, bitsText, payloadText, spaced, okText, noText, decoded};
+ghost use Rattle.printer.specs.Text.{natText, sizeText, softText, bitText, bitsText, payloadText, spaced, okText, noText, decoded};
 ghost use Rattle.printer.specs.Put.{Put, Printed};
 ghost use Rattle.model.specs.Soft.{softOf};
 
@@ -59,26 +59,27 @@ fn magnitude(z: i32) -> u32
     }
 }
 
-fn put_decimal(z: i32, out: &mut [u8], at: usize) -> usize
-    ensures { λ r. ⌜ Put (intText z) (now (out .entry)) at (now (out .exit)) r ⌝ }
+// The size of a soft value by that of its word.
+fn put_size(n: u32, out: &mut [u8], at: usize) -> usize
+    ensures { λ r. ⌜ Put (sizeText n) (now (out .entry)) at (now (out .exit)) r ⌝ }
 {
-    let n = magnitude(z) as u64;
-    if z < 0 {
-        let e = put_byte(b'-', out, at);
-        return put_digits(n, out, e);
+    if n == MARK_SIZE {
+        return put_three(b'i', b'n', b'f', out, at);
     }
-    put_digits(n, out, at)
+    put_digits(n as u64, out, at)
 }
 
 // A soft value by its word, behind a space.
 fn put_soft(z: i32, out: &mut [u8], at: usize) -> usize
     ensures { λ r. ⌜ Put (32 ∷ softText (softOf z)) (now (out .entry)) at (now (out .exit)) r ⌝ }
 {
+    let n = magnitude(z);
     let e = put_byte(b' ', out, at);
-    if z == MARK {
-        return put_three(b'i', b'n', b'f', out, e);
+    if z < 0 {
+        let f = put_byte(b'-', out, e);
+        return put_size(n, out, f);
     }
-    put_decimal(z, out, e)
+    put_size(n, out, e)
 }
 
 // Soft values by their words, each behind a space.

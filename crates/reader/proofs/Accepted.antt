@@ -37,7 +37,7 @@ line-accepted (reading mask sweeps llrs) e =
     record {
       allowed = h;
       small = length-small (length mask) h;
-      bits = b .0;
+      bytes = b .0;
       same = eqb-true (length llrs) (length mask) (c .0);
       some = leb-true 1 (count sweeps) (g .0);
       most = leb-true (count sweeps) maxSweeps (g .1);

@@ -57,13 +57,13 @@ pub refused : map readLine bad ≡ replicate 8 malformed
 unfolding readLine readFields firstOf fields allDigits valueFrom isNumber value allNumbers
 refused = refl
 
--- 13 before all others: `2 x`; then, with LLRs `7 -4` unless said: mask 1, mask 12 with sweeps 0, mask 10 with one LLR and sweeps 0, with no LLR,
--- with sweeps 0, -1 and 9, an LLR of 32768 and of -32768, and accepted: -32767, sweeps 8, and bytes behind the line feed
+-- 13 before all others: `2 x`; then, with LLRs `7 -4` unless said: mask 1, mask 13 with sweeps 0, mask 10 with one LLR and sweeps 0, with no LLR,
+-- with sweeps 0, -1 and 9, an LLR of 32768 and of -32768, and accepted: mask 12, -32767, sweeps 8 and bytes behind the line feed
 abbrev lines : List (List ℕ)
 lines =
     (50 ∷ 32 ∷ 120 ∷ 10 ∷ [])
     ∷ (49 ∷ 32 ∷ 49 ∷ llrs)
-    ∷ (49 ∷ 50 ∷ 32 ∷ 48 ∷ llrs)
+    ∷ (49 ∷ 51 ∷ 32 ∷ 48 ∷ llrs)
     ∷ (49 ∷ 48 ∷ 32 ∷ 48 ∷ 32 ∷ 55 ∷ 10 ∷ [])
     ∷ (49 ∷ 48 ∷ 32 ∷ 49 ∷ 10 ∷ [])
     ∷ (49 ∷ 48 ∷ 32 ∷ 48 ∷ llrs)
@@ -71,6 +71,7 @@ lines =
     ∷ (49 ∷ 48 ∷ 32 ∷ 57 ∷ llrs)
     ∷ (49 ∷ 48 ∷ 32 ∷ 49 ∷ 32 ∷ 51 ∷ 50 ∷ 55 ∷ 54 ∷ 56 ∷ 32 ∷ 49 ∷ 10 ∷ [])
     ∷ (49 ∷ 48 ∷ 32 ∷ 49 ∷ 32 ∷ 45 ∷ 51 ∷ 50 ∷ 55 ∷ 54 ∷ 56 ∷ 32 ∷ 49 ∷ 10 ∷ [])
+    ∷ (49 ∷ 50 ∷ 32 ∷ 49 ∷ llrs)
     ∷ (49 ∷ 48 ∷ 32 ∷ 49 ∷ 32 ∷ 45 ∷ 51 ∷ 50 ∷ 55 ∷ 54 ∷ 55 ∷ 32 ∷ 49 ∷ 10 ∷ [])
     ∷ (49 ∷ 48 ∷ 32 ∷ 56 ∷ llrs ++ (120 ∷ 10 ∷ []))
     ∷ []
@@ -78,6 +79,6 @@ lines =
     llrs : List ℕ
     llrs = 32 ∷ 55 ∷ 32 ∷ 45 ∷ 52 ∷ 10 ∷ []
 
-pub line-numbers : map (λ (bytes : List ℕ). lineNumber (readLine bytes)) lines ≡ 13 ∷ 1 ∷ 2 ∷ 3 ∷ 3 ∷ 4 ∷ 4 ∷ 4 ∷ 7 ∷ 7 ∷ 0 ∷ 0 ∷ []
+pub line-numbers : map (λ (bytes : List ℕ). lineNumber (readLine bytes)) lines ≡ 13 ∷ 1 ∷ 2 ∷ 3 ∷ 3 ∷ 4 ∷ 4 ∷ 4 ∷ 7 ∷ 7 ∷ 0 ∷ 0 ∷ 0 ∷ []
 unfolding lineNumber refusal exponentTo atMost llrsInRange readLine readFields firstOf fields allDigits valueFrom isNumber value allNumbers
 line-numbers = refl

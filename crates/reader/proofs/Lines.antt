@@ -10,6 +10,7 @@ use lib.ListN.{length, take, drop, length-map}
 use lib.Seq.{take-at, length-take-le}
 use borrow.Author.Tests.{lt-ltb, le-ltb, le-leb, lt-leb, leb-true, leb-false}
 use Rattle.model.specs.Lists.{atMost, over}
+use Rattle.model.specs.Encoding.{maxMask}
 use Rattle.model.specs.Refusals.{llrsInRange, accepted}
 use Rattle.fields.specs.Grammar.{firstOf, fields, isDigits, digit, isNumber, value, allNumbers, maxLine, Reading, malformed, reading, readFields, readLine}
 use Rattle.fields.specs.Steps.{fieldAt, nextAt, rest}
@@ -40,18 +41,18 @@ module _ (fs : List (List ℕ)) where
       go true p = (refl, cc, cc)
       go false p = let z : _≡_ {A = ℕ} 0 1 = cc in absurd (omega arith)
 
--- the digit of a byte is 0 or 1 exactly if the byte is at most `1`
-bits-test : (t : List ℕ) → atMost 49 t ≡ atMost 1 (map digit t)
+-- the digits of bytes are at most 2 exactly if the bytes are at most `2`
+digits-test : (t : List ℕ) → atMost 50 t ≡ atMost maxMask (map digit t)
 unfolding atMost
-bits-test [] = refl
-bits-test (b ∷ t) = rw (bits-test t, same b)
+digits-test [] = refl
+digits-test (b ∷ t) = rw (digits-test t, same b)
   where
-    same : (b : ℕ) → leb b 49 ≡ leb (digit b) 1
-    same b = go (leb b 49) refl
+    same : (b : ℕ) → leb b 50 ≡ leb (digit b) maxMask
+    same b = go (leb b 50) refl
       where
-        go : (x : Bool) → leb b 49 ≡ x → x ≡ leb (digit b) 1
-        go true q = sym (le-leb (digit b) 1 (omega (arith, leb-true b 49 q)))
-        go false q = sym (lt-leb (digit b) 1 (omega (arith, leb-false b 49 q)))
+        go : (x : Bool) → leb b 50 ≡ x → x ≡ leb (digit b) maxMask
+        go true q = sym (le-leb (digit b) maxMask (omega (arith, leb-true b 50 q)))
+        go false q = sym (lt-leb (digit b) maxMask (omega (arith, leb-false b 50 q)))
 
 -- ---- a line whose mask field ends at a
 module _ (s : List ℕ) (a : ℕ) (e : a ≡ 0 + firstOf 32 (drop 0 s)) where
@@ -87,11 +88,11 @@ module _ (s : List ℕ) (a : ℕ) (e : a ≡ 0 + firstOf 32 (drop 0 s)) where
     bad-llrs b =
         rw (fields-two, llrs-broken (rest s (nextAt s (a + 1))) b, and-false (isNumber (fieldAt s (a + 1))), and-false (isDigits (take a s)))
 
-    -- and all is well-formed: its number by whether the digits are bits, the sweeps, the number of LLRs and whether these are in range
+    -- and all is well-formed: its number by whether the digits are mask bytes, the sweeps, the number of LLRs and whether these are in range
     module _ (d : isDigits (take a s) ≡ true) (w : isNumber (fieldAt s (a + 1)) ≡ true)
         (l₀ l : List ℤ) (k : ℕ) (ok : Bool) (r : ReadLlrs (rest s (nextAt s (a + 1))) l₀ l (Numbers k ok)) (room : 1024 ≤ length l₀)
-        (bits : Bool) (eb : bits ≡ atMost 49 (take a s)) (sweeps : ℕ) (es : sweeps ≡ count (value (fieldAt s (a + 1))))
-        (number : ℕ) (en : number ≡ fieldsNumber a bits sweeps k ok) where
+        (bytes : Bool) (eb : bytes ≡ atMost 50 (take a s)) (sweeps : ℕ) (es : sweeps ≡ count (value (fieldAt s (a + 1))))
+        (number : ℕ) (en : number ≡ fieldsNumber a bytes sweeps k ok) where
       abbrev ls : List (List ℕ)
       ls = rest s (nextAt s (a + 1))
 
@@ -106,7 +107,7 @@ module _ (s : List ℕ) (a : ℕ) (e : a ≡ 0 + firstOf 32 (drop 0 s)) where
       unfolding fieldsNumber lineNumber
       number-is =
           let n = llrs-numbers ls k ok (r .is) in
-          rw (en, read, digits, eb, es, bits-test (take a s), n .1, n .2, length-map ls value)
+          rw (en, read, digits, eb, es, digits-test (take a s), n .1, n .2, length-map ls value)
 
       fronts : number ≡ 0 → Fronts s l a
       unfolding over

@@ -23,10 +23,10 @@ pub record ReadLlrs (fs : List (List ℕ)) (before after : List ℤ) (answer : L
   pub is : answer ≡ llrsRead fs
   pub stored : allNumbers fs ≡ true → llrsInRange (map value fs) ≡ true → after ≡ sets before 0 (map value fs)
 
--- the rows of `lineNumber`, by the number of mask digits, whether they are bits, the sweeps, the number of LLRs, whether those are in range
+-- the rows of `lineNumber`, by the number of mask digits, whether they are mask bytes, the sweeps, the number of LLRs, whether those are in range
 unfoldable pub fieldsNumber : ℕ → Bool → ℕ → ℕ → Bool → ℕ
-fieldsNumber digits bits sweeps llrs inRange =
-    refusal (row-1 digits ∷ test 2 bits ∷ row-3 llrs digits ∷ row-4 sweeps ∷ test 7 inRange ∷ [])
+fieldsNumber digits bytes sweeps llrs inRange =
+    refusal (row-1 digits ∷ test 2 bytes ∷ row-3 llrs digits ∷ row-4 sweeps ∷ test 7 inRange ∷ [])
 
 -- what is answered of a line
 pub record Answered (line : Reading) (number size sweeps : ℕ) : Type 0 where
@@ -45,7 +45,7 @@ pub record Fronts (line : List ℕ) (llrs : List ℤ) (size : ℕ) : Type 0 wher
 pub record Fit (mask : List ℕ) (sweeps : ℕ) (llrs : List ℤ) : Type 0 where
   pub allowed : exponent (length mask) ≡ 0 → ⊥
   pub small : length mask ≤ 1024
-  pub bits : atMost maxMask mask ≡ true
+  pub bytes : atMost maxMask mask ≡ true
   pub same : length llrs ≡ length mask
   pub some : 1 ≤ sweeps
   pub most : sweeps ≤ maxSweeps

@@ -73,14 +73,14 @@ fn sweep_count(sweeps: i32) -> usize
     if sweeps < 0 { 0 } else { sweeps as usize }
 }
 
-// The number of a line by its parts: the number of mask digits, whether they are bits, the sweeps, the number of LLRs,
+// The number of a line by its parts: the number of mask digits, whether they are mask bytes, the sweeps, the number of LLRs,
 // whether those are in range.
-fn fields_number(digits: usize, bits: bool, sweeps: usize, llrs: usize, in_range: bool) -> u32
-    ensures { λ r. ⌜ r ≡ fieldsNumber digits bits sweeps llrs in_range ⌝ }
+fn fields_number(digits: usize, bytes: bool, sweeps: usize, llrs: usize, in_range: bool) -> u32
+    ensures { λ r. ⌜ r ≡ fieldsNumber digits bytes sweeps llrs in_range ⌝ }
 {
     let t = exponent_of(digits);
     let fourth = tested(sweeps_fit(sweeps), tested(in_range, 0, 7), 4);
-    let second = tested(bits, tested(llrs == digits, fourth, 3), 2);
+    let second = tested(bytes, tested(llrs == digits, fourth, 3), 2);
     tested(t != 0, second, 1)
 }
 
@@ -128,7 +128,7 @@ fn read_parts(line: &[u8], llrs: &mut [i16]) -> Line
     if !digits_only(&line[..a]) {
         return refused(13);
     }
-    let bits = at_most(&line[..a], b'1');
+    let bytes = at_most(&line[..a], b'2');
     let field = field_at(line, a + 1);
     let number = field.number;
     let Number::Value(z) = number else {
@@ -139,7 +139,7 @@ fn read_parts(line: &[u8], llrs: &mut [i16]) -> Line
     let Llrs::Numbers { count, in_range } = read else {
         return refused(13);
     };
-    answer(fields_number(a, bits, sweeps, count, in_range), a, sweeps)
+    answer(fields_number(a, bytes, sweeps, count, in_range), a, sweeps)
 }
 
 // Stores the digits of the mask field at the front of a buffer.

@@ -62,12 +62,12 @@ overlaid-stays plan (suc t) p S P = (
 )
 
 -- the bounds of S are its bounds
-pub overlaid-held : (plan : List ℕ) (t p B : ℕ) (S P : Tree) → Held plan t p B S → Held plan t p B (overlaid plan t p S P)
+pub overlaid-held : (plan : List ℕ) (t p B : ℕ) (S P : Tree) → Held false plan t p B S → Held false plan t p B (overlaid plan t p S P)
 unfolding overlaid
 overlaid-held plan zero p B S P H = H
 overlaid-held plan (suc t) p B S P H = (
-  subst (UnderAll (suc t) _) (sym (overlaid-message plan (suc t) p S P)) (H .0),
-  λ e. subst (λ (X : Tree). Held plan t (2 * p) (2 * B) (left X) × Held plan t (2 * p + 1) (2 * B) (right X)) (sym (overlaid-through plan t p S P e))
+  subst (UnderAll false (suc t) _) (sym (overlaid-message plan (suc t) p S P)) (H .0),
+  λ e. subst (λ (X : Tree). Held false plan t (2 * p) (2 * B) (left X) × Held false plan t (2 * p + 1) (2 * B) (right X)) (sym (overlaid-through plan t p S P e))
       (overlaid-held plan t (2 * p) (2 * B) (left S) (left P) (H .1 e .0), overlaid-held plan t (2 * p + 1) (2 * B) (right S) (right P) (H .1 e .1)),
 )
 

@@ -13,18 +13,20 @@ use Rattle.model.specs.Lists.{tabulate, part}
 use Rattle.model.specs.Soft.{Soft, certain, softZero, _at_, box, plus, mark, wordOf, softOf}
 use Rattle.model.specs.Scan.{leaf}
 use Rattle.model.specs.Kinds.{isSome, isKind, Kind, rate-0, rate-1, REP, SPC, type-I, type-III, type-II, type-IV, kindOf, shortcut, others, typeII, typeIV}
-use Rattle.model.specs.Plans.{isRate01, isCut, wellCut, putKind, put}
+use Rattle.model.specs.Plans.{isRate01, isCut, wellCut, put}
 use Rattle.model.specs.Bounds.{limit, Small, Under, cap}
 use Rattle.model.proofs.Lists.{T-true, absurd-bool, double, tabulate-ext, getD-tabulate, and-l}
-use Rattle.model.proofs.PlannedWalk.{walk-cut}
+use Rattle.model.proofs.FrozenPositions.{kinds-alike}
+use Rattle.model.proofs.KnownOnes.{plain-message}
+use Rattle.model.proofs.FlippedWalk.{putColumn, plain-cut}
 use Rattle.model.proofs.Paths.{wellCut-cut}
-use Rattle.model.proofs.Bounds.{shortcut-under, under-mono}
+use Rattle.model.proofs.Bounds.{ones-none, shortcut-under, under-mono}
 use Rattle.words.specs.Words.{word, soft, write, stored, Incoming}
 use Rattle.words.proofs.Laws.{soft-word, soft-at, small-size}
 use Rattle.words.proofs.Store.{write-ext}
 use Rattle.messages.proofs.Messages.{zero-value, rate-one-value}
 use Rattle.kinds.specs.Known.{FixedAs}
-use Rattle.scan.specs.Space.{constant, treeAt, begun, CutNode, Room, Visited}
+use Rattle.scan.specs.Space.{constant, treeAt, begun, frozenPart, CutNode, Room, Visited}
 use Rattle.messages.specs.Cut.{cutWords}
 use Rattle.messages.proofs.Sizes.{kind-sized}
 use Rattle.scan.proofs.Begun.{begun-put}
@@ -72,18 +74,20 @@ module _ (plan mask : List ℕ) (N t s p b x : ℕ) (first : Bool) (w v : List �
       omega (arith, room .limited, mul-comm (2 ^ t) (room .bound))
 
   -- a kind's message stays within the limit
-  message-limit : (k : Kind) → kindOf (2 ^ t) (part mask b (2 ^ t)) ≡ some k → (j : ℕ) → j < 2 ^ t → Under limit (shortcut k (2 ^ t) L at j)
+  message-limit : (k : Kind) → kindOf (2 ^ t) (part mask b (2 ^ t)) ≡ some k → (j : ℕ) → j < 2 ^ t → Under false limit (shortcut k (2 ^ t) L at j)
   unfolding shortcut
   message-limit k e = go k refl
     where
-      looked : (k : Kind) → kindOf (2 ^ t) (part mask b (2 ^ t)) ≡ some k → isRate01 (some k) ≡ false → (j : ℕ) → j < 2 ^ t → Under limit (shortcut k (2 ^ t) L at j)
+      looked : (k : Kind) → kindOf (2 ^ t) (part mask b (2 ^ t)) ≡ some k → isRate01 (some k) ≡ false → (j : ℕ) → j < 2 ^ t → Under false limit (shortcut k (2 ^ t) L at j)
       looked k e q j lt =
-          under-mono (shortcut k (2 ^ t) L at j) cap-top
-          (shortcut-under t (room .bound) (part mask b (2 ^ t)) k L e (room .small (ap₂ (λ (x y : Bool). x && y) yes (ap isRate01 e ∙ q))) j lt)
+          under-mono false (shortcut k (2 ^ t) L at j) cap-top
+          (subst (λ (l : List Soft). Under false (cap t (room .bound)) (l at j)) (plain-message k t (part mask b (2 ^ t)) L)
+          (shortcut-under false t (room .bound) (frozenPart mask b t) k L (kinds-alike (2 ^ t) (part mask b (2 ^ t)) ∙ e) (ones-none t (part mask b (2 ^ t)))
+          (room .small (ap₂ (λ (x y : Bool). x && y) yes (ap isRate01 e ∙ q))) j lt))
 
-      go : (x : Kind) → k ≡ x → (j : ℕ) → j < 2 ^ t → Under limit (shortcut k (2 ^ t) L at j)
-      go rate-0 p j lt = subst (λ (y : Kind). Under limit (shortcut y (2 ^ t) L at j)) (sym p) (rw (getD-tabulate (2 ^ t) (λ i. certain) j softZero lt) tt)
-      go rate-1 p j lt = subst (λ (y : Kind). Under limit (shortcut y (2 ^ t) L at j)) (sym p) (rw (getD-tabulate (2 ^ t) (λ i. softZero) j softZero lt) (omega arith))
+      go : (x : Kind) → k ≡ x → (j : ℕ) → j < 2 ^ t → Under false limit (shortcut k (2 ^ t) L at j)
+      go rate-0 p j lt = subst (λ (y : Kind). Under false limit (shortcut y (2 ^ t) L at j)) (sym p) (rw (getD-tabulate (2 ^ t) (λ i. certain) j softZero lt) tt)
+      go rate-1 p j lt = subst (λ (y : Kind). Under false limit (shortcut y (2 ^ t) L at j)) (sym p) (rw (getD-tabulate (2 ^ t) (λ i. softZero) j softZero lt) (omega arith))
       go REP p j lt = looked k e (ap (λ (y : Kind). isRate01 (some y)) p) j lt
       go SPC p j lt = looked k e (ap (λ (y : Kind). isRate01 (some y)) p) j lt
       go type-I p j lt = looked k e (ap (λ (y : Kind). isRate01 (some y)) p) j lt
@@ -96,7 +100,7 @@ module _ (plan mask : List ℕ) (N t s p b x : ℕ) (first : Bool) (w v : List �
   read-back k e q =
       tabulate-ext (2 ^ t) _ (λ j. shortcut k (2 ^ t) L at j) (λ j lt.
       ap softOf (stored-at w v (t * N + b) (2 ^ t) (λ i. wordOf (shortcut k (2 ^ t) L at i)) j q lt (omega (arith, fit-room room .fit, room .rows, fit-room room .within)))
-      ∙ soft-word limit (shortcut k (2 ^ t) L at j) (omega arith) (message-limit k e j lt))
+      ∙ soft-word false limit (shortcut k (2 ^ t) L at j) (omega arith) (message-limit k e j lt))
       ∙ sym (shortcut-list k (2 ^ t) L)
 
   pub visited-cut : v ≡ cutWords (kindOf (2 ^ t) (part mask b (2 ^ t))) w (t * N + b) x s → Visited plan mask N t p b x first w v
@@ -110,9 +114,9 @@ module _ (plan mask : List ℕ) (N t s p b x : ℕ) (first : Bool) (w v : List �
           let r′ : v ≡ stored w (t * N + b) (2 ^ t) (shortcut k (2 ^ t) L) = r ∙ ap (λ (o : Option Kind). cutWords o w (t * N + b) x (2 ^ t)) e in
           record {
             tree = put-tree N t b x w v (shortcut k (2 ^ t) L) (fit-room room) r′ (read-back k e r′)
-                ∙ sym (walk-cut plan t p (part mask b (2 ^ t)) (begun first plan t p (part mask b (2 ^ t)) (treeAt N w t b)) L yes
-                ∙ ap (λ (o : Option Kind). putKind o (2 ^ t) L (begun first plan t p (part mask b (2 ^ t)) (treeAt N w t b))) e
-                ∙ begun-put first plan N w t p b (part mask b (2 ^ t)) (shortcut k (2 ^ t) L) yes);
+                ∙ sym (plain-cut plan t p (part mask b (2 ^ t)) (begun first plan t p (frozenPart mask b t) (treeAt N w t b)) L yes
+                ∙ ap (λ (o : Option Kind). putColumn o (2 ^ t) L (begun first plan t p (frozenPart mask b t) (treeAt N w t b))) e
+                ∙ begun-put first plan N w t p b (frozenPart mask b t) (shortcut k (2 ^ t) L) yes);
             kept = kept-row N t b x w v _ (fit-room room) (t * N + b) (2 ^ t) r′ (omega arith) (omega arith);
           }
 

@@ -11,9 +11,11 @@ use Rattle.model.specs.Soft.{Soft, certain, softZero, _at_}
 use Rattle.model.specs.Scan.{Tree, message}
 use Rattle.model.specs.Lists.{tabulate}
 use Rattle.model.specs.Kinds.{Kind, rate-0, rate-1, REP, SPC, type-I, type-III, type-II, type-IV, order, row, isKind, kindOf, shortcut}
-use Rattle.model.specs.Plans.{isCut, isRate01, putKind, walk}
+use Rattle.model.specs.Plans.{isCut, isRate01, walk}
+use Rattle.model.specs.Encoding.{frozenToZero}
 use Rattle.model.proofs.Lists.{getD-tabulate}
-use Rattle.model.proofs.PlannedWalk.{walk-cut, message-put}
+use Rattle.model.proofs.PlannedWalk.{message-put}
+use Rattle.model.proofs.FlippedWalk.{putColumn, plain-cut}
 use Rattle.kinds.specs.Known.{FixedAs}
 use Rattle.scan.specs.Space.{constant}
 
@@ -58,16 +60,16 @@ is-kind k (some j) e = ap some (sym (row-kind j) ∙ ap (λ (r : ℕ). getD orde
 -- the message of a cut node of a kind that has the same value everywhere
 walk-fixed : (k : Kind) (s : Soft) → ((m : ℕ) (L : List Soft) → shortcut k m L ≡ tabulate m (λ i. s))
     → (plan : List ℕ) (t p : ℕ) (mask : List ℕ) (P : Tree) (L : List Soft) → (isCut plan p && isKind k (kindOf (2 ^ t) mask)) ≡ true
-    → (i : ℕ) → i < 2 ^ t → message (walk plan t p mask P L) at i ≡ s
+    → (i : ℕ) → i < 2 ^ t → message (walk plan t p (frozenToZero mask) P L) at i ≡ s
 walk-fixed k s table plan t p mask P L e i lt =
     let cut-so = both-true (isCut plan p) (isKind k (kindOf (2 ^ t) mask)) e in
-    ap (λ (T′ : Tree). message T′ at i) (walk-cut plan t p mask P L (cut-so .0) ∙ ap (λ (x : Option Kind). putKind x (2 ^ t) L P) (is-kind k (kindOf (2 ^ t) mask) (cut-so .1)))
+    ap (λ (T′ : Tree). message T′ at i) (plain-cut plan t p mask P L (cut-so .0) ∙ ap (λ (x : Option Kind). putColumn x (2 ^ t) L P) (is-kind k (kindOf (2 ^ t) mask) (cut-so .1)))
     ∙ ap (λ (l : List Soft). l at i) (message-put (shortcut k (2 ^ t) L) P ∙ table (2 ^ t) L)
     ∙ getD-tabulate (2 ^ t) (λ i. s) i softZero lt
 
 module _ (plan : List ℕ) (t p : ℕ) (mask : List ℕ) (P : Tree) (L : List Soft) (a z : Bool) (f : FixedAs plan (2 ^ t) p mask a z) where
-  pub walk-certain : a ≡ true → (i : ℕ) → i < 2 ^ t → message (walk plan t p mask P L) at i ≡ certain
+  pub walk-certain : a ≡ true → (i : ℕ) → i < 2 ^ t → message (walk plan t p (frozenToZero mask) P L) at i ≡ certain
   walk-certain e = walk-fixed rate-0 certain (λ m l. unfold shortcut in refl) plan t p mask P L (sym (f .as-certain) ∙ e)
 
-  pub walk-zero : z ≡ true → (i : ℕ) → i < 2 ^ t → message (walk plan t p mask P L) at i ≡ softZero
+  pub walk-zero : z ≡ true → (i : ℕ) → i < 2 ^ t → message (walk plan t p (frozenToZero mask) P L) at i ≡ softZero
   walk-zero e = walk-fixed rate-1 softZero (λ m l. unfold shortcut in refl) plan t p mask P L (sym (f .as-zero) ∙ e)

@@ -7,7 +7,7 @@ use Prim.Native.Nat.{ℕ, suc, _+_, _*_, _^_, _≤_, _<_}
 use native.Mathlib.Nat.{suc-mul}
 use native.Mathlib.Omega.{arith}
 use lib.ListN.{length}
-use mathlib.Core.Bool.{Bool}
+use mathlib.Core.Bool.{Bool, false}
 use Rattle.model.specs.Soft.{Soft, softZero, _at_, box, plus, mark, wordOf, softOf}
 use Rattle.model.specs.Scan.{Tree, message, toLeft, toRight}
 use Rattle.model.specs.Plans.{walk}
@@ -17,47 +17,48 @@ use Rattle.model.proofs.Algebra.{plus-comm, plus-zero-r}
 use Rattle.model.proofs.Bounds.{small-box, small-plus, under-box, under-plus, under-mono, small-mono}
 use Rattle.words.specs.Words.{Word, Added, word, soft, write, Holds, boxWord, addWord, Words}
 use Rattle.halves.specs.Halves.{boxAt, boxPlus, plusBox, Sums, BoxSums, FiniteBoxSums, Combinable, lowHalf, highHalf}
-use Rattle.words.proofs.Laws.{word-soft, soft-at, small-under, small-size, under-word, soft-box, soft-add, add-word}
+use Rattle.words.proofs.Laws.{word-soft, soft-at, small-under, small-size, under-word, soft-box, soft-add, added}
 use Rattle.words.proofs.Store.{source-below}
-use Rattle.model.specs.Lists.{part}
-use Rattle.scan.specs.Space.{treeAt, begun, Kept, Visited}
+use Rattle.scan.specs.Space.{treeAt, begun, frozenPart, Kept, Visited}
 use Rattle.scan.proofs.Keep.{Fit, kept-refl, kept-trans, kept-scratch, kept-row, kept-child, fit-kept, tree-cong, message-at, under, stored-at}
 
 -- a word of a value within `limit`, and of a finite one
-within-word : (q : ℤ) (b : Soft) → softOf q ≡ b → Under limit b → Word q
-within-word q b e u = under-word limit q (omega arith) (subst (Under limit) (sym e) u)
+within-word : (q : ℤ) (b : Soft) → softOf q ≡ b → Under false limit b → Word q
+within-word q b e u = under-word false limit q (omega arith) (subst (Under false limit) (sym e) u)
 
 small-word : (q : ℤ) (b : Soft) → softOf q ≡ b → Small limit b → natAbs q < mark
 small-word q b e s = let h : natAbs q ≤ limit = small-size limit q (subst (Small limit) (sym e) s) in omega arith
 
 -- ---- box and sum of words whose soft values are known and stay within `limit`
 module _ (p q r : ℤ) (a b c : Soft) (ea : softOf p ≡ a) (eb : softOf q ≡ b) (ec : softOf r ≡ c) where
-  sum-under : Under limit (plus b c) → Under limit (plus (softOf q) (softOf r))
-  sum-under u = subst (Under limit) (sym (ap₂ plus eb ec)) u
+  sum-under : Under false limit (plus b c) → Under false limit (plus (softOf q) (softOf r))
+  sum-under u = subst (Under false limit) (sym (ap₂ plus eb ec)) u
 
-  pub sum-is : Under limit (plus b c) → softOf (addWord q r) ≡ plus b c
-  sum-is u = soft-add limit (omega arith) q r (sum-under u) ∙ ap₂ plus eb ec
+  pub sum-is : Under false limit (plus b c) → softOf (addWord q r) ≡ plus b c
+  sum-is u = soft-add false limit q r (omega arith) (sum-under u) ∙ ap₂ plus eb ec
 
-  pub sum-word : Small limit b → Under limit (plus b c) → Added q r
-  sum-word s u = (small-word q b eb s, add-word limit (omega arith) q r (sum-under u))
+  pub sum-word : Small limit b → Under false limit (plus b c) → Added q r
+  sum-word s u = added limit (omega arith) q r (small-word q b eb s) (sum-under u)
 
-  pub box-plus-is : Under limit (plus b c) → Under limit (box a (plus b c)) → softOf (boxWord p (addWord q r)) ≡ box a (plus b c)
+  pub box-plus-is : Under false limit (plus b c) → Under false limit (box a (plus b c)) → softOf (boxWord p (addWord q r)) ≡ box a (plus b c)
   box-plus-is u v =
       let e : box (softOf p) (softOf (addWord q r)) ≡ box a (plus b c) = ap₂ box ea (sum-is u) in
-      soft-box limit (omega arith) p (addWord q r) (subst (Under limit) (sym e) v) ∙ e
+      soft-box false limit p (addWord q r) (omega arith) (subst (Under false limit) (sym e) v) ∙ e
 
   -- the box of p and q, and r added
-  pub box-is : Under limit (box a b) → softOf (boxWord p q) ≡ box a b
-  box-is u = soft-box limit (omega arith) p q (subst (Under limit) (sym (ap₂ box ea eb)) u) ∙ ap₂ box ea eb
+  pub box-is : Under false limit (box a b) → softOf (boxWord p q) ≡ box a b
+  box-is u = soft-box false limit p q (omega arith) (subst (Under false limit) (sym (ap₂ box ea eb)) u) ∙ ap₂ box ea eb
 
-  plus-box-under : Under limit (box a b) → Under limit (plus (box a b) c) → Under limit (plus (softOf (boxWord p q)) (softOf r))
-  plus-box-under u v = subst (Under limit) (sym (ap₂ plus (box-is u) ec)) v
+  plus-box-under : Under false limit (box a b) → Under false limit (plus (box a b) c) → Under false limit (plus (softOf (boxWord p q)) (softOf r))
+  plus-box-under u v = subst (Under false limit) (sym (ap₂ plus (box-is u) ec)) v
 
-  pub plus-box-is : Under limit (box a b) → Under limit (plus (box a b) c) → softOf (addWord (boxWord p q) r) ≡ plus (box a b) c
-  plus-box-is u v = soft-add limit (omega arith) (boxWord p q) r (plus-box-under u v) ∙ ap₂ plus (box-is u) ec
+  pub plus-box-is : Under false limit (box a b) → Under false limit (plus (box a b) c) → softOf (addWord (boxWord p q) r) ≡ plus (box a b) c
+  plus-box-is u v = soft-add false limit (boxWord p q) r (omega arith) (plus-box-under u v) ∙ ap₂ plus (box-is u) ec
 
-  pub plus-box-word : Small limit (box a b) → Under limit (plus (box a b) c) → Added (boxWord p q) r
-  plus-box-word s v = (small-word (boxWord p q) (box a b) (box-is (small-under limit (box a b) s)) s, add-word limit (omega arith) (boxWord p q) r (plus-box-under (small-under limit (box a b) s) v))
+  pub plus-box-word : Small limit (box a b) → Under false limit (plus (box a b) c) → Added (boxWord p q) r
+  plus-box-word s v =
+      let u : Under false limit (box a b) = small-under false limit (box a b) s in
+      added limit (omega arith) (boxWord p q) r (small-word (boxWord p q) (box a b) (box-is u) s) (plus-box-under u v)
 
 -- ---- the state in the middle of a visit of a node of stage t + 1 that began with w
 pub record Mid (N t b x : ℕ) (w v : List ℤ) (A B : Tree) : Type 0 where
@@ -115,19 +116,19 @@ module _ {N t b x : ℕ} {w v : List ℤ} {A B : Tree} (begin : Visiting N t b x
   -- a visit of the left child, of the right child
   module _ (plan mask : List ℕ) (p : ℕ) (first : Bool) (z : List ℤ) where
     pub mid-left : Visited plan mask N t p b c first v z
-        → Mid N t b x w z (walk plan t p (part mask b (2 ^ t)) (begun first plan t p (part mask b (2 ^ t)) A) (soft v c (2 ^ t))) B
+        → Mid N t b x w z (walk plan t p (frozenPart mask b t) (begun first plan t p (frozenPart mask b t) A) (soft v c (2 ^ t))) B
     mid-left s = record {
       kept = kept-trans (m .kept) (kept-child N t b x b v z (omega arith) (omega arith) (fit .rows) (s .kept));
-      lefts = s .tree ∙ ap (λ (T : Tree). walk plan t p (part mask b (2 ^ t)) (begun first plan t p (part mask b (2 ^ t)) T) (soft v c (2 ^ t))) (m .lefts);
+      lefts = s .tree ∙ ap (λ (T : Tree). walk plan t p (frozenPart mask b t) (begun first plan t p (frozenPart mask b t) T) (soft v c (2 ^ t))) (m .lefts);
       rights = tree-cong N t (b + 2 ^ t) v z (λ u i le low high. s .kept .rows u i le (omega (arith, fit .within, twice)) (inr low)) ∙ m .rights;
     }
 
     pub mid-right : Visited plan mask N t p (b + 2 ^ t) c first v z
-        → Mid N t b x w z A (walk plan t p (part mask (b + 2 ^ t) (2 ^ t)) (begun first plan t p (part mask (b + 2 ^ t) (2 ^ t)) B) (soft v c (2 ^ t)))
+        → Mid N t b x w z A (walk plan t p (frozenPart mask (b + 2 ^ t) t) (begun first plan t p (frozenPart mask (b + 2 ^ t) t) B) (soft v c (2 ^ t)))
     mid-right s = record {
       kept = kept-trans (m .kept) (kept-child N t b x (b + 2 ^ t) v z (omega arith) (omega arith) (fit .rows) (s .kept));
       lefts = tree-cong N t b v z (λ u i le low high. s .kept .rows u i le (omega (arith, fit .within, twice)) (inl high)) ∙ m .lefts;
-      rights = s .tree ∙ ap (λ (T : Tree). walk plan t p (part mask (b + 2 ^ t) (2 ^ t)) (begun first plan t p (part mask (b + 2 ^ t) (2 ^ t)) T) (soft v c (2 ^ t))) (m .rights);
+      rights = s .tree ∙ ap (λ (T : Tree). walk plan t p (frozenPart mask (b + 2 ^ t) t) (begun first plan t p (frozenPart mask (b + 2 ^ t) t) T) (soft v c (2 ^ t))) (m .rights);
     }
 
   -- the right child's incoming list outlasts the child's visit, and so does what it was made of
@@ -183,8 +184,8 @@ module _ {N t b x : ℕ} {w v : List ℤ} {A B : Tree} (begin : Visiting N t b x
   high-small : (k : ℕ) → k < 2 ^ t → Small bound (upper k)
   high-small k lt = begin .small (k + 2 ^ t) (omega (arith, twice))
 
-  small-top : (s : Soft) → Small bound s → Under limit s
-  small-top s u = under-mono s (omega (arith, begin .limited)) (small-under bound s u)
+  small-top : (s : Soft) → Small bound s → Under false limit s
+  small-top s u = under-mono false s (omega (arith, begin .limited)) (small-under false bound s u)
 
   small-in : (s : Soft) → Small bound s → Small limit s
   small-in s u = small-mono s (omega (arith, begin .limited)) u
@@ -195,14 +196,14 @@ module _ {N t b x : ℕ} {w v : List ℤ} {A B : Tree} (begin : Visiting N t b x
   boxed-in : (s : Soft) (k : ℕ) → k < 2 ^ t → Small limit (box (lower k) s)
   boxed-in s k lt = small-in (box (lower k) s) (boxed s k lt)
 
-  boxed-top : (s : Soft) (k : ℕ) → k < 2 ^ t → Under limit (box (lower k) s)
+  boxed-top : (s : Soft) (k : ℕ) → k < 2 ^ t → Under false limit (box (lower k) s)
   boxed-top s k lt = small-top (box (lower k) s) (boxed s k lt)
 
-  cap-top : (s : Soft) → Under (cap t (2 * bound)) s → Under limit s
-  cap-top s u = under-mono s (omega (arith, begin .limited)) u
+  cap-top : (s : Soft) → Under false (cap t (2 * bound)) s → Under false limit s
+  cap-top s u = under-mono false s (omega (arith, begin .limited)) u
 
-  sum-top : (s r : Soft) → Small bound s → Under (cap t (2 * bound)) r → Under limit (plus s r)
-  sum-top s r u v = under-mono (plus s r) (begin .limited) (under-plus bound (cap t (2 * bound)) s r u v)
+  sum-top : (s r : Soft) → Small bound s → Under false (cap t (2 * bound)) r → Under false limit (plus s r)
+  sum-top s r u v = under-mono false (plus s r) (begin .limited) (under-plus false bound (cap t (2 * bound)) s r u v)
 
   pub words-list : Words v x (2 ^ t)
   words-list k lt = within-word (word v (x + k)) _ (at-low k lt) (small-top (lower k) (low-small k lt))
@@ -219,15 +220,15 @@ module _ {N t b x : ℕ} {w v : List ℤ} {A B : Tree} (begin : Visiting N t b x
       ∙ box-is _ _ (pos 0) _ _ _ (at-low k lt) (at-high k lt) refl (boxed-top (upper k) k lt)
       ∙ ap (box (lower k)) (sym (ap (plus (upper k)) (none k lt) ∙ plus-zero-r (upper k))))
 
-  module _ (left-under : UnderAll t (cap t (2 * bound)) (message A)) where
+  module _ (left-under : UnderAll false t (cap t (2 * bound)) (message A)) where
     pub words-left : Words v (t * N + b) (2 ^ t)
     words-left k lt = within-word (word v (t * N + b + k)) _ (at-left k lt) (cap-top (message A at k) (left-under k lt))
 
     -- what the right child is handed, and the sums on the way
-    right-top : (k : ℕ) → k < 2 ^ t → Under limit (plus (box (lower k) (message A at k)) (upper k))
+    right-top : (k : ℕ) → k < 2 ^ t → Under false limit (plus (box (lower k) (message A at k)) (upper k))
     right-top k lt =
-        under-mono (plus (box (lower k) (message A at k)) (upper k)) (begin .doubled)
-        (small-under (2 * bound) (plus (box (lower k) (message A at k)) (upper k))
+        under-mono false (plus (box (lower k) (message A at k)) (upper k)) (begin .doubled)
+        (small-under false (2 * bound) (plus (box (lower k) (message A at k)) (upper k))
         (small-plus bound (box (lower k) (message A at k)) (upper k) (boxed (message A at k) k lt) (high-small k lt)))
 
     pub right-sums : FiniteBoxSums v x (t * N + b) (x + 2 ^ t) (2 ^ t)
@@ -242,11 +243,11 @@ module _ {N t b x : ℕ} {w v : List ℤ} {A B : Tree} (begin : Visiting N t b x
         ap softOf (stored-at v z c (2 ^ t) (plusBox v x (t * N + b) (x + 2 ^ t)) k e lt (omega (arith, fit .fit, m .kept .long, twice)))
         ∙ plus-box-is _ _ _ _ _ _ (at-low k lt) (at-left k lt) (at-high k lt) (boxed-top (message A at k) k lt) (right-top k lt))
 
-  module _ (right-under : UnderAll t (cap t (2 * bound)) (message B)) where
+  module _ (right-under : UnderAll false t (cap t (2 * bound)) (message B)) where
     pub words-right : Words v (t * N + b + 2 ^ t) (2 ^ t)
     words-right k lt = within-word (word v (t * N + b + 2 ^ t + k)) _ (at-right k lt) (cap-top (message B at k) (right-under k lt))
 
-    high-sum : (k : ℕ) → k < 2 ^ t → Under limit (plus (upper k) (message B at k))
+    high-sum : (k : ℕ) → k < 2 ^ t → Under false limit (plus (upper k) (message B at k))
     high-sum k lt = sum-top (upper k) (message B at k) (high-small k lt) (right-under k lt)
 
     pub left-sums : Sums v (x + 2 ^ t) (t * N + b + 2 ^ t) (2 ^ t)
@@ -259,8 +260,8 @@ module _ {N t b x : ℕ} {w v : List ℤ} {A B : Tree} (begin : Visiting N t b x
         ap softOf (stored-at v z c (2 ^ t) (boxPlus v x (x + 2 ^ t) (t * N + b + 2 ^ t)) k e lt (omega (arith, fit .fit, m .kept .long, twice)))
         ∙ box-plus-is _ _ _ _ _ _ (at-low k lt) (at-high k lt) (at-right k lt) (high-sum k lt) (boxed-top (plus (upper k) (message B at k)) k lt))
 
-    module _ (left-under : UnderAll t (cap t (2 * bound)) (message A)) where
-      up-top : (k : ℕ) → k < 2 ^ t → Under limit (plus (box (lower k) (message A at k)) (message B at k))
+    module _ (left-under : UnderAll false t (cap t (2 * bound)) (message A)) where
+      up-top : (k : ℕ) → k < 2 ^ t → Under false limit (plus (box (lower k) (message A at k)) (message B at k))
       up-top k lt = sum-top (box (lower k) (message A at k)) (message B at k) (boxed (message A at k) k lt) (right-under k lt)
 
       pub up-sums : BoxSums v x (t * N + b) (t * N + b + 2 ^ t) (2 ^ t)
@@ -275,7 +276,7 @@ module _ {N t b x : ℕ} {w v : List ℤ} {A B : Tree} (begin : Visiting N t b x
       low-half z e k lt =
           ap softOf (stored-at v z (suc t * N + b) (2 ^ t) (lowHalf v x (t * N + b) (2 ^ t)) k e lt (omega (arith, fit .fit, fit .rows, fit .within, m .kept .long, twice)))
           ∙ box-plus-is _ _ _ _ _ _ (at-left k lt) (at-high k lt) (at-right k lt) (high-sum k lt)
-          (under-box limit (message A at k) (plus (upper k) (message B at k)) (cap-top (message A at k) (left-under k lt)) (high-sum k lt))
+          (under-box false limit (message A at k) (plus (upper k) (message B at k)) (cap-top (message A at k) (left-under k lt)) (high-sum k lt))
 
       pub high-half : (base z : List ℤ) → length base ≡ length v → z ≡ write base (suc t * N + b + 2 ^ t) (2 ^ t) (highHalf v x (t * N + b) (2 ^ t))
           → (k : ℕ) → k < 2 ^ t → softOf (word z (suc t * N + b + 2 ^ t + k)) ≡ plus (message B at k) (box (lower k) (message A at k))

@@ -9,6 +9,7 @@ use native.Mathlib.Omega.{arith}
 use lib.IntN.{ℤ}
 use lib.Pow.{pow-pos}
 use Rattle.model.specs.Soft.{Soft, _at_, wordOf}
+use Rattle.model.specs.Encoding.{frozenToZero}
 use Rattle.model.specs.Scan.{Tree, left, right, message, sweeps}
 use Rattle.model.specs.Plans.{walk}
 use Rattle.model.proofs.Lists.{double}
@@ -61,11 +62,11 @@ module _ (plan mask : List ℕ) (N t : ℕ) (first : Bool) (k : ℕ) (size : N �
     pub swept-same : (v v′ : List ℤ) → Swept plan mask N t first k w v → Swept plan mask N t first k w′ v′ → SameBut N t v v′
     swept-same v v′ p q j out = ⊎-elim (λ (lt : j < (t + 1) * N). rows lt) (λ (ge : (t + 1) * N ≤ j). past-rows (omega (arith, row-start N t 1, mul-comm N (t + 1)))) (lt-or-ge j ((t + 1) * N))
       where
-        start : begun first plan t 1 mask (treeAt N w′ t 0) ≡ begun first plan t 1 mask (treeAt N w t 0)
-        start = ap (begun first plan t 1 mask) same-tree
+        start : begun first plan t 1 (frozenToZero mask) (treeAt N w′ t 0) ≡ begun first plan t 1 (frozenToZero mask) (treeAt N w t 0)
+        start = ap (begun first plan t 1 (frozenToZero mask)) same-tree
 
         trees : treeAt N v′ t 0 ≡ treeAt N v t 0
-        trees = q .tree ∙ ap₂ (λ (L : List Soft) (T : Tree). sweeps (λ X. walk plan t 1 mask X L) k T) same-list start ∙ sym (p .tree)
+        trees = q .tree ∙ ap₂ (λ (L : List Soft) (T : Tree). sweeps (λ X. walk plan t 1 (frozenToZero mask) X L) k T) same-list start ∙ sym (p .tree)
 
         rows : j < (t + 1) * N → word v′ j ≡ word v j
         rows lt =

@@ -1,6 +1,6 @@
 -- A sweep from the visit of the root, sweeps one after the other, and a decode around them. Assumes nothing.
 use mathlib.Core.Path.{_≡_, refl, sym, ap, ap₂, _∙_, subst}
-use lib.IntN.{ℤ, pos, natAbs}
+use lib.IntN.{ℤ, pos}
 use mathlib.Core.Bool.{Bool, true, false}
 use mathlib.Core.List.{List, [], _∷_, map}
 use Prim.Native.Nat.{ℕ, zero, suc, _+_, _*_, _^_, _≤_, _<_}
@@ -13,15 +13,18 @@ use borrow.Author.Tests.{ne-eqb}
 use lib.ListN.{length, getD, List·getD-map}
 use lib.Seq.{take-all}
 use Rattle.model.specs.Lists.{tabulate, part}
-use Rattle.model.specs.Soft.{Soft, finite, _at_, mark, wordOf, maxLlr, softOf}
+use Rattle.model.specs.Soft.{Soft, finite, _at_, wordOf, maxLlr, softOf}
+use Rattle.model.specs.Encoding.{frozenToZero}
 use Rattle.model.specs.Scan.{Tree, message, start, sweeps, scan}
 use Rattle.model.specs.Plans.{Stays, wellCut, walk}
 use Rattle.model.specs.Bounds.{Small, SmallAll, Held}
 use Rattle.model.proofs.Lists.{tabulate-ext}
 use Rattle.model.proofs.Paths.{allowed-length, allowed-cuts}
-use Rattle.model.proofs.Theorems.{soft-from}
+use Rattle.model.proofs.Theorems.{soft-from, plain-held}
 use Rattle.model.proofs.PlannedWalk.{walk-stays, stays-then}
-use Rattle.model.proofs.Bounds.{held-sweeps, within-held, within-start}
+use Rattle.model.proofs.FrozenPositions.{allowed-alike}
+use Rattle.model.proofs.Flips.{llrs-finite}
+use Rattle.model.proofs.Bounds.{ones-none, within-held, within-start}
 use Rattle.words.specs.Words.{word, soft, write, stored}
 use Rattle.words.proofs.Laws.{soft-at, word-soft, soft-fin}
 use Rattle.words.proofs.Store.{length-write, write-is, write-ext, source-above}
@@ -57,14 +60,14 @@ module _ {plan mask : List ℕ} {N t : ℕ} {first : Bool} {w : List ℤ} (r : R
     bound = maxLlr;
     limited = let m : 2 ^ t ≤ 1024 = pow-mono (r .low) in omega arith;
     small = λ _. r .small;
-    held = subst (λ (m : List ℕ). Held plan t 1 maxLlr (begun first plan t 1 m (treeAt N w t 0))) (sym the-mask) (r .held);
+    held = subst (λ (m : List ℕ). Held false plan t 1 maxLlr (begun first plan t 1 (frozenToZero m) (treeAt N w t 0))) (sym the-mask) (r .held);
   }
 
   abbrev P₀ : Tree
-  P₀ = begun first plan t 1 mask (treeAt N w t 0)
+  P₀ = begun first plan t 1 (frozenToZero mask) (treeAt N w t 0)
 
-  tree-is : (v : List ℤ) → Visited plan mask N t 1 0 (N * (t + 1)) first w v → treeAt N v t 0 ≡ walk plan t 1 mask P₀ (soft w (N * (t + 1)) N)
-  tree-is v done = done .tree ∙ ap₂ (λ (m : List ℕ) (n : ℕ). walk plan t 1 m (begun first plan t 1 m (treeAt N w t 0)) (soft w (N * (t + 1)) n)) the-mask (sym (r .size))
+  tree-is : (v : List ℤ) → Visited plan mask N t 1 0 (N * (t + 1)) first w v → treeAt N v t 0 ≡ walk plan t 1 (frozenToZero mask) P₀ (soft w (N * (t + 1)) N)
+  tree-is v done = done .tree ∙ ap₂ (λ (m : List ℕ) (n : ℕ). walk plan t 1 (frozenToZero m) (begun first plan t 1 (frozenToZero m) (treeAt N w t 0)) (soft w (N * (t + 1)) n)) the-mask (sym (r .size))
 
   pub swept-one : (v : List ℤ) → Visited plan mask N t 1 0 (N * (t + 1)) first w v → Swept plan mask N t first 1 w v
   unfolding sweeps
@@ -72,8 +75,8 @@ module _ {plan mask : List ℕ} {N t : ℕ} {first : Bool} {w : List ℤ} (r : R
       let k : Kept N t 0 (N * (t + 1)) w v = done .kept in
       record {
         tree = tree-is v done;
-        below = stays-then plan t 1 (treeAt N w t 0) P₀ (treeAt N v t 0) (begun-stays first plan t 1 mask (treeAt N w t 0))
-            (subst (Stays plan t 1 P₀) (sym (tree-is v done)) (walk-stays plan t 1 mask P₀ (soft w (N * (t + 1)) N)));
+        below = stays-then plan t 1 (treeAt N w t 0) P₀ (treeAt N v t 0) (begun-stays first plan t 1 (frozenToZero mask) (treeAt N w t 0))
+            (subst (Stays plan t 1 P₀) (sym (tree-is v done)) (walk-stays plan t 1 (frozenToZero mask) P₀ (soft w (N * (t + 1)) N)));
         list = λ i lt. k .between (N * (t + 1) + i) (omega (arith, row-start N t 1)) (omega (arith, r .size));
         past = λ j le. k .beyond j (omega (arith, row-start N t 1, row-start N t 3, r .size));
         long = k .long;
@@ -91,13 +94,13 @@ sweeps-one f P = refl
 
 pub swept-more : {plan mask : List ℕ} {N t k : ℕ} {first : Bool} {w v z : List ℤ} → Swept plan mask N t first k w v → Swept plan mask N t false 1 v z → Swept plan mask N t first (k + 1) w z
 swept-more {plan} {mask} {N} {t} {k} {first} {w} {v} {z} p q =
-    let F : List Soft → Tree → Tree = λ L P. walk plan t 1 mask P L in
+    let F : List Soft → Tree → Tree = λ L P. walk plan t 1 (frozenToZero mask) P L in
     let same : soft v (N * (t + 1)) N ≡ soft w (N * (t + 1)) N = soft-cong w v (N * (t + 1)) N (p .list) in
     record {
       tree = q .tree ∙ sweeps-one (F (soft v (N * (t + 1)) N)) (treeAt N v t 0)
           ∙ ap₂ F same (p .tree)
-          ∙ sym (sweeps-more (F (soft w (N * (t + 1)) N)) k (begun first plan t 1 mask (treeAt N w t 0)))
-          ∙ ap (λ (n : ℕ). sweeps (F (soft w (N * (t + 1)) N)) n (begun first plan t 1 mask (treeAt N w t 0))) (sym (add-one k));
+          ∙ sym (sweeps-more (F (soft w (N * (t + 1)) N)) k (begun first plan t 1 (frozenToZero mask) (treeAt N w t 0)))
+          ∙ ap (λ (n : ℕ). sweeps (F (soft w (N * (t + 1)) N)) n (begun first plan t 1 (frozenToZero mask) (treeAt N w t 0))) (sym (add-one k));
       below = stays-then plan t 1 (treeAt N w t 0) (treeAt N v t 0) (treeAt N z t 0) (p .below) (q .below);
       list = λ i lt. q .list i lt ∙ p .list i lt;
       past = λ j le. q .past j le ∙ p .past j le;
@@ -115,7 +118,8 @@ ready-after {plan} {mask} {N} {t} {k} {first} {w} {v} r s =
       positions = r .positions;
       allowed = r .allowed;
       small = subst (SmallAll t maxLlr) (sym (soft-cong w v (N * (t + 1)) (2 ^ t) (λ i lt. s .list i (omega (arith, r .size))))) (r .small);
-      held = subst (Held plan t 1 maxLlr) (sym (s .tree)) (held-sweeps plan t mask maxLlr (soft w (N * (t + 1)) N) (allowed-cuts t plan mask (r .allowed)) (subst (SmallAll t maxLlr) (sym e) (r .small)) k (begun first plan t 1 mask (treeAt N w t 0)) (r .held));
+      held = subst (Held false plan t 1 maxLlr) (sym (s .tree))
+          (plain-held t plan mask (r .allowed) (soft w (N * (t + 1)) N) (subst (SmallAll t maxLlr) (sym e) (r .small)) k (begun first plan t 1 (frozenToZero mask) (treeAt N w t 0)) (r .held));
     }
 
 -- ---- the words after k sweeps from the first on
@@ -146,10 +150,14 @@ module _ (plan mask : List ℕ) (N t : ℕ) (w : List ℤ) where
   so-far-long (suc k) v s = s .long
 
 -- a list made of another's places
-tabulate-map : {A B : Type 0} (f : A → B) (l : List A) (d : A) → tabulate (length l) (λ k. f (getD l k d)) ≡ map f l
+pub tabulate-map : {A B : Type 0} (f : A → B) (l : List A) (d : A) → tabulate (length l) (λ k. f (getD l k d)) ≡ map f l
 unfolding tabulate
 tabulate-map f [] d = refl
 tabulate-map f (x ∷ l) d = ap (λ xs. f x ∷ xs) (tabulate-map f l d)
+
+-- the LLRs of a decode, in size
+pub small-list : {plan mask : List ℕ} {llrs : List ℤ} {count N t out words : ℕ} → Decodable plan mask llrs count N t out words → SmallAll t maxLlr (map finite llrs)
+small-list {llrs = llrs} can k lt = subst (Small maxLlr) (sym (List·getD-map finite llrs k (pos 0))) (can .small k (omega (arith, can .size)))
 
 -- ---- the steps of a decode
 module _ (plan mask : List ℕ) (llrs : List ℤ) (count N t : ℕ) (out w w₁ : List ℤ) (can : Decodable plan mask llrs count N t (length out) (length w))
@@ -163,11 +171,8 @@ module _ (plan mask : List ℕ) (llrs : List ℤ) (count N t : ℕ) (out w w₁ 
       ap (λ (n : ℕ). tabulate n (λ k. softOf (word w₁ (N * (t + 1) + k)))) (sym (can .values))
       ∙ tabulate-ext (length llrs) _ (λ k. finite (word llrs k)) (λ k lt.
       ap softOf (stored-at w w₁ (N * (t + 1)) (length llrs) (word llrs) k e₁ lt (omega (arith, can .values, can .room, row-start N t 1, row-start N t 3)))
-      ∙ soft-fin (word llrs k) (λ e. let f : natAbs (word llrs k) ≡ mark = ap natAbs e in omega (arith, can .small k (omega (arith, can .values)))))
+      ∙ soft-fin (word llrs k) (λ e. omega (arith, e, can .small k (omega (arith, can .values)))))
       ∙ tabulate-map finite llrs (pos 0)
-
-  small-list : SmallAll t maxLlr (map finite llrs)
-  small-list k lt = subst (Small maxLlr) (sym (List·getD-map finite llrs k (pos 0))) (can .small k (omega (arith, can .size)))
 
   pub ready : Ready plan mask N t true w₁
   ready = record {
@@ -176,20 +181,21 @@ module _ (plan mask : List ℕ) (llrs : List ℤ) (count N t : ℕ) (out w w₁ 
     room = omega (arith, can .room, long₁);
     positions = can .positions;
     allowed = can .allowed;
-    small = subst (SmallAll t maxLlr) (sym (ap (soft w₁ (N * (t + 1))) (sym (can .size)) ∙ loaded)) small-list;
-    held = overlaid-held plan t 1 maxLlr (start t mask) (treeAt N w₁ t 0) (within-held plan t 1 maxLlr (start t mask) (within-start t maxLlr mask));
+    small = subst (SmallAll t maxLlr) (sym (ap (soft w₁ (N * (t + 1))) (sym (can .size)) ∙ loaded)) (small-list can);
+    held = overlaid-held plan t 1 maxLlr (start t (frozenToZero mask)) (treeAt N w₁ t 0)
+        (within-held false plan t 1 maxLlr (start t (frozenToZero mask)) (within-start false t maxLlr (frozenToZero mask) (ones-none t mask)));
   }
 
   module _ (w₂ : List ℤ) (s : Swept plan mask N t true count w₁ w₂) where
-    answer-is : soft w₂ (t * N + 0) (2 ^ t) ≡ scan t mask (map finite llrs) count
+    answer-is : soft w₂ (t * N + 0) (2 ^ t) ≡ scan t (frozenToZero mask) (map finite llrs) count
     answer-is =
         sym (tree-message N t 0 w₂)
-        ∙ ap message (s .tree ∙ ap (λ (L : List Soft). sweeps (λ X. walk plan t 1 mask X L) count (begun true plan t 1 mask (treeAt N w₁ t 0))) loaded)
-        ∙ soft-from t plan mask (can .allowed) (map finite llrs) count (begun true plan t 1 mask (treeAt N w₁ t 0)) (overlaid-agrees plan t 1 (start t mask) (treeAt N w₁ t 0))
+        ∙ ap message (s .tree ∙ ap (λ (L : List Soft). sweeps (λ X. walk plan t 1 (frozenToZero mask) X L) count (begun true plan t 1 (frozenToZero mask) (treeAt N w₁ t 0))) loaded)
+        ∙ soft-from t plan (frozenToZero mask) (allowed-alike t plan mask (can .allowed)) (map finite llrs) (llrs-finite t llrs) count (begun true plan t 1 (frozenToZero mask) (treeAt N w₁ t 0)) (overlaid-agrees plan t 1 (start t (frozenToZero mask)) (treeAt N w₁ t 0))
 
-    -- the soft values are those of SCAN walked to the leaves
-    pub answered : (o : List ℤ) → o ≡ write out 0 N (λ k. word w₂ (t * N + k)) → o ≡ stored out 0 N (scan t mask (map finite llrs) count)
-    answered o e = e ∙ write-ext (pos 0) out 0 N (λ k. word w₂ (t * N + k)) (λ k. wordOf (scan t mask (map finite llrs) count at k)) (λ k lt.
+    -- the soft values are those of SCAN walked to the leaves, of the mask with 1 for 2
+    pub answered : (o : List ℤ) → o ≡ write out 0 N (λ k. word w₂ (t * N + k)) → o ≡ stored out 0 N (scan t (frozenToZero mask) (map finite llrs) count)
+    answered o e = e ∙ write-ext (pos 0) out 0 N (λ k. word w₂ (t * N + k)) (λ k. wordOf (scan t (frozenToZero mask) (map finite llrs) count at k)) (λ k lt.
         sym (word-soft (word w₂ (t * N + k)))
         ∙ ap wordOf (ap (λ (i : ℕ). softOf (word w₂ i)) (let q : t * N + k ≡ t * N + 0 + k = omega arith in q) ∙ sym (soft-at w₂ (t * N + 0) (2 ^ t) k (omega (arith, can .size))) ∙ ap (λ (l : List Soft). l at k) answer-is))
 
@@ -203,20 +209,3 @@ module _ (plan mask : List ℕ) (llrs : List ℤ) (count N t : ℕ) (out w w₁ 
         (λ j le. source-above (pos 0) w₂ v 0 (N * (t + 3)) _ j e le
         ∙ s .past j (omega arith)
         ∙ source-above (pos 0) w w₁ (N * (t + 1)) (length llrs) _ j e₁ (omega (arith, row-start N t 1, row-start N t 3, can .values)))
-
--- the numbers of a decode
-pub record Sizes (N t words : ℕ) : Type 0 where
-  pub root : N * (t + 1) ≡ t * N + N
-  pub rows : N * (t + 3) ≡ t * N + 3 * N
-  pub few : t + 3 ≤ words
-  pub fits : t * N + 3 * N ≤ words
-
-pub sizes-of : {plan mask : List ℕ} {llrs : List ℤ} {count N t out words : ℕ} → Decodable plan mask llrs count N t out words → Sizes N t words
-sizes-of {N = N} {t = t} {words = words} can =
-    let p : 0 < N = subst (λ (z : ℕ). 0 < z) (sym (can .size)) (pow-pos t) in
-    record {
-      root = omega (arith, row-start N t 1);
-      rows = row-start N t 3;
-      few = omega (arith, can .room, mul-le-mul-right (t + 3) p, one-mul (t + 3));
-      fits = omega (arith, row-start N t 3, can .room);
-    }

@@ -13,18 +13,21 @@ use lib.ListN.{length, take, drop}
 use Rattle.model.specs.Soft.{Soft, certain, softZero, _at_, mark, softOf}
 use Rattle.model.specs.Scan.{Tree, node, message, left, right, toLeft, toRight, toNode}
 use Rattle.model.specs.Kinds.{isSome, Kind, rate-0, rate-1, REP, SPC, type-I, type-III, type-II, type-IV, kindOf, shortcut}
-use Rattle.model.specs.Plans.{isRate01, putKind, isCut, wellCut, walk}
+use Rattle.model.specs.Encoding.{frozenToZero}
+use Rattle.model.specs.Plans.{isRate01, isCut, wellCut, walk}
 use Rattle.model.specs.Bounds.{limit, SmallAll, UnderAll, Held, cap}
 use Rattle.model.proofs.Lists.{absurd-bool, double, tabulate-halves, and-l, and-r}
-use Rattle.model.proofs.PlannedWalk.{walk-cut, walk-through, descend}
-use Rattle.model.proofs.Paths.{wellCut-cut, wellCut-through}
-use Rattle.model.proofs.Bounds.{cap-suc, small-toLeft, small-toRight, held-walk, held-message}
+use Rattle.model.proofs.PlannedWalk.{descend}
+use Rattle.model.proofs.FrozenPositions.{toZero-l, toZero-r, cuts-alike}
+use Rattle.model.proofs.FlippedWalk.{putColumn, plain-cut, plain-through}
+use Rattle.model.proofs.Paths.{wellCut-cut, wellCut-through, paths-of, of-paths}
+use Rattle.model.proofs.Bounds.{ones-none, cap-suc, small-toLeft, small-toRight, held-walk, held-message}
 use Rattle.words.specs.Words.{Holds, word, soft, write, Words}
 use Rattle.halves.specs.Halves.{boxAt, boxPlus, plusBox, Sums, FiniteBoxSums, Combinable, RightListAt, lowHalf, nodeWords}
 use Rattle.words.proofs.Store.{source-below, length-write}
 use Rattle.kinds.specs.Known.{FixedAs}
 use Rattle.model.specs.Lists.{part}
-use Rattle.scan.specs.Space.{constant, treeAt, begun, Room, Visited}
+use Rattle.scan.specs.Space.{constant, treeAt, begun, frozenPart, Room, Visited}
 use Rattle.scan.proofs.Keep.{Fit, node-path, part-left, part-right}
 use Rattle.scan.proofs.Begun.{begun-left, begun-right, begun-zero, leaf-constant}
 use Rattle.scan.proofs.Mids.{Mid, Visiting, mid-start, mid-scratch, mid-row, mid-left, mid-right, words-list, words-high, words-left, right-sums, right-stays, right-list, left-sums, left-list, left-list-zero, in-range, low-half, high-half, left-holds, right-holds}
@@ -88,7 +91,7 @@ pub record Run (plan mask : List ℕ) (N t p b x : ℕ) (first : Bool) (w : List
       → AfterLeft plan mask N t p b x first w h u c a₁ w₂
 
 -- ---- a constant node's walk does not depend on what it is handed
-rate01-same : (o : Option Kind) (m : ℕ) (L L′ : List Soft) (P : Tree) → isRate01 o ≡ true → putKind o m L P ≡ putKind o m L′ P
+rate01-same : (o : Option Kind) (m : ℕ) (L L′ : List Soft) (P : Tree) → isRate01 o ≡ true → putColumn o m L P ≡ putColumn o m L′ P
 unfolding shortcut
 rate01-same none m L L′ P e = refl
 rate01-same (some rate-0) m L L′ P e = refl
@@ -100,10 +103,15 @@ rate01-same (some type-III) m L L′ P e = absurd (subst T (sym e) tt)
 rate01-same (some type-II) m L L′ P e = absurd (subst T (sym e) tt)
 rate01-same (some type-IV) m L L′ P e = absurd (subst T (sym e) tt)
 
-walk-constant : (plan : List ℕ) (t p : ℕ) (mask : List ℕ) (P : Tree) (L L′ : List Soft) → constant plan (2 ^ t) p mask ≡ true → walk plan t p mask P L ≡ walk plan t p mask P L′
+walk-constant : (plan : List ℕ) (t p : ℕ) (mask : List ℕ) (P : Tree) (L L′ : List Soft) → constant plan (2 ^ t) p mask ≡ true
+    → walk plan t p (frozenToZero mask) P L ≡ walk plan t p (frozenToZero mask) P L′
 walk-constant plan t p mask P L L′ e =
     let cut-so = both-true (isCut plan p) (isRate01 (kindOf (2 ^ t) mask)) e in
-    walk-cut plan t p mask P L (cut-so .0) ∙ rate01-same (kindOf (2 ^ t) mask) (2 ^ t) L L′ P (cut-so .1) ∙ sym (walk-cut plan t p mask P L′ (cut-so .0))
+    plain-cut plan t p mask P L (cut-so .0) ∙ rate01-same (kindOf (2 ^ t) mask) (2 ^ t) L L′ P (cut-so .1) ∙ sym (plain-cut plan t p mask P L′ (cut-so .0))
+
+-- a plan is well cut for a mask with every byte 2 replaced by 1 too
+well-alike : (plan : List ℕ) (t p : ℕ) (mask : List ℕ) → T (wellCut plan t p mask) → T (wellCut plan t p (frozenToZero mask))
+well-alike plan t p mask w = let q = paths-of plan t p mask w in of-paths plan t p (frozenToZero mask) (q .0) (rw (cuts-alike plan t p mask) (q .1))
 
 pub fit-room : {plan mask : List ℕ} {N t s p b x : ℕ} {first : Bool} {w : List ℤ} → Room plan mask N t s p b x first w → Fit N t b x (length w)
 fit-room r = record { fit = omega (arith, r .size, r .fit); rows = r .rows; within = omega (arith, r .size, r .within) }
@@ -136,27 +144,31 @@ module _ (plan mask : List ℕ) (N t s p b x : ℕ) (first : Bool) (w : List ℤ
 
   -- what the sweep takes for the children's states
   abbrev left-before : Tree
-  left-before = begun first plan t (2 * p) left-mask stored-left
+  left-before = begun first plan t (2 * p) (frozenToZero left-mask) stored-left
 
   abbrev right-before : Tree
-  right-before = begun first plan t (2 * p + 1) right-mask stored-right
+  right-before = begun first plan t (2 * p + 1) (frozenToZero right-mask) stored-right
 
   abbrev left-after : Tree
-  left-after = walk plan t (2 * p) left-mask left-before (toLeft h incoming (message right-before))
+  left-after = walk plan t (2 * p) (frozenToZero left-mask) left-before (toLeft h incoming (message right-before))
 
   abbrev right-after : Tree
-  right-after = walk plan t (2 * p + 1) right-mask right-before (toRight h incoming (message left-after))
+  right-after = walk plan t (2 * p + 1) (frozenToZero right-mask) right-before (toRight h incoming (message left-after))
 
   abbrev node-before : Tree
-  node-before = begun first plan (suc t) p (part mask b (2 ^ suc t)) (treeAt N w (suc t) b)
+  node-before = begun first plan (suc t) p (frozenPart mask b (suc t)) (treeAt N w (suc t) b)
 
   before-left : left node-before ≡ left-before
   unfolding treeAt
-  before-left = begun-left first plan t p (part mask b (2 ^ suc t)) (treeAt N w (suc t) b) uncut ∙ ap (λ (q : List ℕ). begun first plan t (2 * p) q stored-left) (part-left mask b t)
+  before-left =
+      begun-left first plan t p (frozenPart mask b (suc t)) (treeAt N w (suc t) b) uncut
+      ∙ ap (λ (q : List ℕ). begun first plan t (2 * p) q stored-left) (toZero-l (2 ^ t) (part mask b (2 ^ suc t)) ∙ ap frozenToZero (part-left mask b t))
 
   before-right : right node-before ≡ right-before
   unfolding treeAt
-  before-right = begun-right first plan t p (part mask b (2 ^ suc t)) (treeAt N w (suc t) b) uncut ∙ ap (λ (q : List ℕ). begun first plan t (2 * p + 1) q stored-right) (part-right mask b t)
+  before-right =
+      begun-right first plan t p (frozenPart mask b (suc t)) (treeAt N w (suc t) b) uncut
+      ∙ ap (λ (q : List ℕ). begun first plan t (2 * p + 1) q stored-right) (toZero-r (2 ^ t) (part mask b (2 ^ suc t)) ∙ ap frozenToZero (part-right mask b t))
 
   fits : Fit N (suc t) b x (length w)
   fits = fit-room room
@@ -199,27 +211,27 @@ module _ (plan mask : List ℕ) (N t s p b x : ℕ) (first : Bool) (w : List ℤ
   right-cuts = subst (λ (q : List ℕ). T (wellCut plan t (2 * p + 1) q)) (part-right mask b t) (and-r (wellCut plan t (2 * p) (take (2 ^ t) (part mask b (2 ^ suc t)))) (wellCut plan t (2 * p + 1) (drop (2 ^ t) (part mask b (2 ^ suc t)))) children-cuts)
 
   -- the bounds of the children's messages, before and after
-  left-held-before : Held plan t (2 * p) (2 * bound) left-before
-  left-held-before = subst (Held plan t (2 * p) (2 * bound)) before-left (room .held .1 uncut .0)
+  left-held-before : Held false plan t (2 * p) (2 * bound) left-before
+  left-held-before = subst (Held false plan t (2 * p) (2 * bound)) before-left (room .held .1 uncut .0)
 
-  right-held-before : Held plan t (2 * p + 1) (2 * bound) right-before
-  right-held-before = subst (Held plan t (2 * p + 1) (2 * bound)) before-right (room .held .1 uncut .1)
+  right-held-before : Held false plan t (2 * p + 1) (2 * bound) right-before
+  right-held-before = subst (Held false plan t (2 * p + 1) (2 * bound)) before-right (room .held .1 uncut .1)
 
-  left-held : Held plan t (2 * p) (2 * bound) left-after
-  left-held = held-walk plan t (2 * p) left-mask (2 * bound) left-before (toLeft h incoming (message right-before)) left-cuts (small-toLeft t bound incoming incoming-small (message right-before)) left-held-before
+  left-held : Held false plan t (2 * p) (2 * bound) left-after
+  left-held = held-walk false plan t (2 * p) (frozenToZero left-mask) (2 * bound) left-before (toLeft h incoming (message right-before)) (ones-none t left-mask) (well-alike plan t (2 * p) left-mask left-cuts) (small-toLeft t bound incoming incoming-small (message right-before)) left-held-before
 
-  right-held : Held plan t (2 * p + 1) (2 * bound) right-after
-  right-held = held-walk plan t (2 * p + 1) right-mask (2 * bound) right-before (toRight h incoming (message left-after)) right-cuts (small-toRight t bound incoming incoming-small (message left-after)) right-held-before
+  right-held : Held false plan t (2 * p + 1) (2 * bound) right-after
+  right-held = held-walk false plan t (2 * p + 1) (frozenToZero right-mask) (2 * bound) right-before (toRight h incoming (message left-after)) (ones-none t right-mask) (well-alike plan t (2 * p + 1) right-mask right-cuts) (small-toRight t bound incoming incoming-small (message left-after)) right-held-before
 
   -- what is stored of the right child matters in a later sweep
-  stored-right-under : first ≡ false → UnderAll t (cap t (2 * bound)) (message stored-right)
-  stored-right-under q = held-message plan t (2 * p + 1) (2 * bound) stored-right (subst (λ (f : Bool). Held plan t (2 * p + 1) (2 * bound) (begun f plan t (2 * p + 1) right-mask stored-right)) q right-held-before)
+  stored-right-under : first ≡ false → UnderAll false t (cap t (2 * bound)) (message stored-right)
+  stored-right-under q = held-message false plan t (2 * p + 1) (2 * bound) stored-right (subst (λ (f : Bool). Held false plan t (2 * p + 1) (2 * bound) (begun f plan t (2 * p + 1) (frozenToZero right-mask) stored-right)) q right-held-before)
 
-  left-under : UnderAll t (cap t (2 * bound)) (message left-after)
-  left-under = held-message plan t (2 * p) (2 * bound) left-after left-held
+  left-under : UnderAll false t (cap t (2 * bound)) (message left-after)
+  left-under = held-message false plan t (2 * p) (2 * bound) left-after left-held
 
-  right-under : UnderAll t (cap t (2 * bound)) (message right-after)
-  right-under = held-message plan t (2 * p + 1) (2 * bound) right-after right-held
+  right-under : UnderAll false t (cap t (2 * bound)) (message right-after)
+  right-under = held-message false plan t (2 * p + 1) (2 * bound) right-after right-held
 
   -- ---- the words after each step
   mid₀ : Mid N t b x w w stored-left stored-right
@@ -228,7 +240,7 @@ module _ (plan mask : List ℕ) (N t s p b x : ℕ) (first : Bool) (w : List ℤ
   -- what the visit of a child q with the positions from b′ on requires
   child-room : {q b′ : ℕ} {v : List ℤ} → length v ≡ length w → b ≤ b′ → b′ + h ≤ b + (h + h) → (q + 1) * h ≤ length plan → T (wellCut plan t q (part mask b′ (2 ^ t)))
       → (constant plan h q (part mask b′ (2 ^ t)) ≡ false → SmallAll t (2 * bound) (soft v c h))
-      → Held plan t q (2 * bound) (begun first plan t q (part mask b′ (2 ^ t)) (treeAt N v t b′)) → Room plan mask N t h q b′ c first v
+      → Held false plan t q (2 * bound) (begun first plan t q (frozenPart mask b′ t) (treeAt N v t b′)) → Room plan mask N t h q b′ c first v
   child-room long low high planned cuts small held = record {
     size = refl;
     fit = omega (arith, fits .fit, twice);
@@ -273,19 +285,19 @@ module _ (plan mask : List ℕ) (N t s p b x : ℕ) (first : Bool) (w : List ℤ
 
           go : (f : Bool) → first ≡ f → soft w₁ c h ≡ toLeft h incoming (message right-before)
           go true e = left-list-zero begin mid₀ (message right-before)
-              (λ k lt. ap (λ (f : Bool). message (begun f plan t (2 * p + 1) right-mask stored-right) at k) e ∙ begun-zero plan t (2 * p + 1) right-mask stored-right (no-leaf q) k lt) w₁ (stored₁ true e)
+              (λ k lt. ap (λ (f : Bool). message (begun f plan t (2 * p + 1) (frozenToZero right-mask) stored-right) at k) e ∙ begun-zero plan t (2 * p + 1) (frozenToZero right-mask) stored-right (no-leaf q) k lt) w₁ (stored₁ true e)
           go false e = left-list begin mid₀ (stored-right-under e) w₁ (stored₁ false e)
-              ∙ ap (λ (f : Bool). toLeft h incoming (message (begun f plan t (2 * p + 1) right-mask stored-right))) (sym e)
+              ∙ ap (λ (f : Bool). toLeft h incoming (message (begun f plan t (2 * p + 1) (frozenToZero right-mask) stored-right))) (sym e)
 
       room-left : Room plan mask N t h (2 * p) b c first w₁
       room-left = child-room (mid₁ .kept .long) (omega arith) (omega arith) (planned-both .0) left-cuts
           (λ q. subst (SmallAll t (2 * bound)) (sym (left-list-is (skip₁ ∙ q))) (small-toLeft t bound incoming incoming-small (message right-before)))
-          (subst (λ (X : Tree). Held plan t (2 * p) (2 * bound) (begun first plan t (2 * p) left-mask X)) (sym (mid₁ .lefts)) left-held-before)
+          (subst (λ (X : Tree). Held false plan t (2 * p) (2 * bound) (begun first plan t (2 * p) (frozenToZero left-mask) X)) (sym (mid₁ .lefts)) left-held-before)
 
       -- the left child's walk
-      left-walk : (s : Bool) → (a₁ || z₁) ≡ s → walk plan t (2 * p) left-mask left-before (soft w₁ c h) ≡ left-after
+      left-walk : (s : Bool) → (a₁ || z₁) ≡ s → walk plan t (2 * p) (frozenToZero left-mask) left-before (soft w₁ c h) ≡ left-after
       left-walk true q = walk-constant plan t (2 * p) left-mask left-before (soft w₁ c h) (toLeft h incoming (message right-before)) (sym skip₁ ∙ q)
-      left-walk false q = ap (walk plan t (2 * p) left-mask left-before) (left-list-is q)
+      left-walk false q = ap (walk plan t (2 * p) (frozenToZero left-mask) left-before) (left-list-is q)
 
       mid₂ : {w₂ : List ℤ} → Visited plan mask N t (2 * p) b c first w₁ w₂ → Mid N t b x w w₂ left-after stored-right
       mid₂ {w₂} done = subst (λ (T : Tree). Mid N t b x w w₂ T stored-right) (left-walk (a₁ || z₁) refl) (mid-left begin mid₁ plan mask (2 * p) first w₂ done)
@@ -311,12 +323,12 @@ module _ (plan mask : List ℕ) (N t s p b x : ℕ) (first : Bool) (w : List ℤ
         room-right : Room plan mask N t h (2 * p + 1) (b + h) c first w₃
         room-right = child-room (mid₃ .kept .long) (omega arith) (omega arith) (planned-both .1) right-cuts
             (λ q. subst (SmallAll t (2 * bound)) (sym (right-list-is (skip₃ ∙ q))) (small-toRight t bound incoming incoming-small (message left-after)))
-            (subst (λ (X : Tree). Held plan t (2 * p + 1) (2 * bound) (begun first plan t (2 * p + 1) right-mask X)) (sym (mid₃ .rights)) right-held-before)
+            (subst (λ (X : Tree). Held false plan t (2 * p + 1) (2 * bound) (begun first plan t (2 * p + 1) (frozenToZero right-mask) X)) (sym (mid₃ .rights)) right-held-before)
 
         -- the right child's walk
-        right-walk : (s : Bool) → (a₃ || z₃) ≡ s → walk plan t (2 * p + 1) right-mask right-before (soft w₃ c h) ≡ right-after
+        right-walk : (s : Bool) → (a₃ || z₃) ≡ s → walk plan t (2 * p + 1) (frozenToZero right-mask) right-before (soft w₃ c h) ≡ right-after
         right-walk true q = walk-constant plan t (2 * p + 1) right-mask right-before (soft w₃ c h) (toRight h incoming (message left-after)) (sym skip₃ ∙ q)
-        right-walk false q = ap (walk plan t (2 * p + 1) right-mask right-before) (right-list-is q)
+        right-walk false q = ap (walk plan t (2 * p + 1) (frozenToZero right-mask) right-before) (right-list-is q)
 
         module _ {w₄ : List ℤ} (done : Visited plan mask N t (2 * p + 1) (b + h) c first w₃ w₄) where
           mid₄ : Mid N t b x w w₄ left-after right-after
@@ -347,9 +359,9 @@ module _ (plan mask : List ℕ) (N t s p b x : ℕ) (first : Bool) (w : List ℤ
             unfolding treeAt
             node-visited = record {
               tree = node-path message-is (mid₅ .lefts) (mid₅ .rights)
-                  ∙ sym (walk-through plan t p (part mask b (2 ^ suc t)) node-before incoming uncut
-                  ∙ ap₂ (λ (q r : List ℕ). descend (walk plan t (2 * p) q) (walk plan t (2 * p + 1) r) (2 ^ t) node-before incoming) (part-left mask b t) (part-right mask b t)
-                  ∙ ap₂ (λ (X Y : Tree). descend (walk plan t (2 * p) left-mask) (walk plan t (2 * p + 1) right-mask) (2 ^ t) (node [] X Y) incoming) before-left before-right);
+                  ∙ sym (plain-through plan t p (part mask b (2 ^ suc t)) node-before incoming uncut
+                  ∙ ap₂ (λ (q r : List ℕ). descend (walk plan t (2 * p) (frozenToZero q)) (walk plan t (2 * p + 1) (frozenToZero r)) (2 ^ t) node-before incoming) (part-left mask b t) (part-right mask b t)
+                  ∙ ap₂ (λ (X Y : Tree). descend (walk plan t (2 * p) (frozenToZero left-mask)) (walk plan t (2 * p + 1) (frozenToZero right-mask)) (2 ^ t) (node [] X Y) incoming) before-left before-right);
               kept = mid₅ .kept;
             }
 

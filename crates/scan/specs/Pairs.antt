@@ -9,7 +9,7 @@ use Rattle.model.specs.Encoding.{isUnfrozen}
 use Rattle.words.specs.Words.{write}
 use Rattle.halves.specs.Halves.{nodeWords}
 
--- w with the message of the leaf at position b stored there: certain, or 0
+-- w with the message of the leaf at position b stored there: ∞, or 0
 abbrev pub leafWords : List ℕ → List ℤ → ℕ → List ℤ
 leafWords mask w b = write w b 1 (λ k. cond (not (isUnfrozen (getD mask b 0))) (pos mark) (pos 0))
 

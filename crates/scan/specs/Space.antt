@@ -1,14 +1,15 @@
 -- The lent words as a tree of messages, and what a visit and a sweep leave in them. Assumes nothing: these are definitions.
 use mathlib.Core.Path.{_≡_}
 use mathlib.Core.Logic.{_⊎_}
-use mathlib.Core.Bool.{Bool, false, cond, _&&_}
+use mathlib.Core.Bool.{Bool, true, false, cond, _&&_}
 use mathlib.Core.List.{List}
 use Prim.Native.Nat.{ℕ, zero, suc, _+_, _*_, _^_, _≤_, _<_}
-use lib.IntN.{ℤ, natAbs}
+use lib.IntN.{ℤ, negℤ, natAbs}
 use lib.Dec.{T}
 use lib.ListN.{length}
-use Rattle.model.specs.Lists.{part}
+use Rattle.model.specs.Lists.{part, onOnes}
 use Rattle.model.specs.Soft.{maxLlr}
+use Rattle.model.specs.Encoding.{knownWord, frozenToZero}
 use Rattle.model.specs.Scan.{Tree, leaf, node, message, left, right, start, sweeps}
 use Rattle.model.specs.Kinds.{kindOf, isSome}
 use Rattle.model.specs.Plans.{isCut, isRate01, wellCut, put, walk, Stays, Allowed}
@@ -31,6 +32,10 @@ overlaid plan (suc t) p S T =
 -- the state that a sweep begins with, where T is stored: the first one takes the messages at the cuts and above them as they are before the first sweep
 abbrev pub begun : Bool → List ℕ → ℕ → ℕ → List ℕ → Tree → Tree
 begun first plan t p mask T = cond first (overlaid plan t p (start t mask) T) T
+
+-- the part of the mask of the node of stage t whose first position is b, as the walk takes it: 1 for each frozen position, whatever it is frozen to
+abbrev pub frozenPart : List ℕ → ℕ → ℕ → List ℕ
+frozenPart mask b t = frozenToZero (part mask b (2 ^ t))
 
 -- a cut rate-0 or rate-1 node: its message does not depend on what it is handed
 abbrev pub constant : List ℕ → ℕ → ℕ → List ℕ → Bool
@@ -58,7 +63,7 @@ pub record Room (plan mask : List ℕ) (N t s p b x : ℕ) (first : Bool) (w : L
   pub bound : ℕ
   pub limited : bound * 2 ^ t ≤ limit
   pub small : constant plan (2 ^ t) p (part mask b (2 ^ t)) ≡ false → SmallAll t bound (soft w x (2 ^ t))
-  pub held : Held plan t p bound (begun first plan t p (part mask b (2 ^ t)) (treeAt N w t b))
+  pub held : Held false plan t p bound (begun first plan t p (frozenPart mask b t) (treeAt N w t b))
 
 -- v is w but for the words of the node of stage t with the positions from b on, and the words that follow its incoming list at x
 pub record Kept (N t b x : ℕ) (w v : List ℤ) : Type 0 where
@@ -69,12 +74,12 @@ pub record Kept (N t b x : ℕ) (w v : List ℤ) : Type 0 where
 
 -- v is w after a visit of node p at stage t
 pub record Visited (plan mask : List ℕ) (N t p b x : ℕ) (first : Bool) (w v : List ℤ) : Type 0 where
-  pub tree : treeAt N v t b ≡ walk plan t p (part mask b (2 ^ t)) (begun first plan t p (part mask b (2 ^ t)) (treeAt N w t b)) (soft w x (2 ^ t))
+  pub tree : treeAt N v t b ≡ walk plan t p (frozenPart mask b t) (begun first plan t p (frozenPart mask b t) (treeAt N w t b)) (soft w x (2 ^ t))
   pub kept : Kept N t b x w v
 
 -- ---- sweeps
 -- N words a row and t + 3 rows: those of the stages 0 to t, and two for incoming lists, the root's first.
--- The root's incoming list holds LLRs; messages at and above the cuts are within bounds; those below a cut, and in the first sweep
+-- The root's incoming list holds LLRs; messages at and above the cuts are within bounds and not -∞; those below a cut, and in the first sweep
 -- all that are stored, are not mentioned.
 pub record Ready (plan mask : List ℕ) (N t : ℕ) (first : Bool) (w : List ℤ) : Type 0 where
   pub size : N ≡ 2 ^ t
@@ -83,26 +88,26 @@ pub record Ready (plan mask : List ℕ) (N t : ℕ) (first : Bool) (w : List ℤ
   pub positions : length mask ≡ N
   pub allowed : Allowed t plan mask
   pub small : SmallAll t maxLlr (soft w (N * (t + 1)) (2 ^ t))
-  pub held : Held plan t 1 maxLlr (begun first plan t 1 mask (treeAt N w t 0))
+  pub held : Held false plan t 1 maxLlr (begun first plan t 1 (frozenToZero mask) (treeAt N w t 0))
 
 -- the words in which the incoming lists of the nodes below the root are made: N of them, past the root's own list.
 -- What a sweep leaves there is open; it reads no such word before it has stored it, so what they held has no influence on another word.
 abbrev pub Scratch : ℕ → ℕ → ℕ → Type 0
 Scratch N t j = (N * (t + 2) ≤ j) × (j < N * (t + 3))
 
--- v is w after k sweeps along the plan, the first sweep among them or not: the messages of the nodes at and above the cuts are the walk's;
--- stored messages of nodes below a cut are as they were, whatever they held; the root's incoming list and what lies past the workspace are too.
+-- v is w after k sweeps along the plan, the first sweep among them or not: the messages of the nodes at and above the cuts are the walk's, every mask byte 2
+-- being read as 1; stored messages of nodes below a cut are as they were, whatever they held; the root's incoming list and what lies past the workspace are too.
 -- This leaves `Scratch` open and nothing else: proofs/Open.antt
 pub record Swept (plan mask : List ℕ) (N t : ℕ) (first : Bool) (k : ℕ) (w v : List ℤ) : Type 0 where
-  pub tree : treeAt N v t 0 ≡ sweeps (λ T. walk plan t 1 mask T (soft w (N * (t + 1)) N)) k (begun first plan t 1 mask (treeAt N w t 0))
+  pub tree : treeAt N v t 0 ≡ sweeps (λ T. walk plan t 1 (frozenToZero mask) T (soft w (N * (t + 1)) N)) k (begun first plan t 1 (frozenToZero mask) (treeAt N w t 0))
   pub below : Stays plan t 1 (treeAt N w t 0) (treeAt N v t 0)
   pub list : (i : ℕ) → i < N → word v (N * (t + 1) + i) ≡ word w (N * (t + 1) + i)
   pub past : (j : ℕ) → N * (t + 3) ≤ j → word v j ≡ word w j
   pub long : length v ≡ length w
 
 -- the workspace with the LLRs as the root's incoming list
-abbrev pub withLlrs : ℕ → ℕ → List ℤ → List ℤ → List ℤ
-withLlrs N t llrs w = write w (N * (t + 1)) (length llrs) (word llrs)
+abbrev pub llrsLoaded : ℕ → ℕ → List ℤ → List ℤ → List ℤ
+llrsLoaded N t llrs w = write w (N * (t + 1)) (length llrs) (word llrs)
 
 -- ---- a decode's soft values: what the accepted inputs are
 pub record Decodable (plan mask : List ℕ) (llrs : List ℤ) (count N t out words : ℕ) : Type 0 where
@@ -115,3 +120,13 @@ pub record Decodable (plan mask : List ℕ) (llrs : List ℤ) (count N t out wor
   pub some-sweep : 0 < count
   pub answer : N ≤ out
   pub room : N * (t + 3) ≤ words
+
+-- what is handed in about the frozen values: their word, where some byte of the mask is 2
+pub record FrozenWord (mask : List ℕ) (t : ℕ) (ones : Bool) (known : List ℕ) : Type 0 where
+  pub long : length known ≡ length mask
+  pub word-is : ones ≡ true → known ≡ knownWord t mask
+  pub none : ones ≡ false → frozenToZero mask ≡ mask
+
+-- numbers, negated where that word has a 1; it has none where no byte is 2
+abbrev pub flippedIf : Bool → List ℕ → List ℤ → List ℤ
+flippedIf ones known xs = cond ones (onOnes negℤ known xs) xs

@@ -1,9 +1,13 @@
-// The planned walk over one lent workspace.
+// The planned walk over one lent workspace. It reads every mask byte 2 as 1, so no message is -∞. Where the word of the frozen values has a 1, LLRs are
+// negated before it and soft values after it.
 use by_list::message_by_list;
 use combine::message_left_certain;
 use combine::message_of_leaves;
 use combine::message_right_zero;
 use combine::node_message;
+use flips::flip_words;
+use flips::known_word;
+use flips::load_flipped;
 use halves::left_list;
 use halves::right_list;
 use inputs::UNFROZEN;
@@ -19,24 +23,25 @@ use words::copy_words;
 use words::fill;
 use words::load_llrs;
 ghost use mathlib.Core.Path.{_≡_};
-ghost use Prim.Native.Nat.{_+_, _*_, _≤_, _<_};
-ghost use lib.ListN.{length};
-ghost use lib.IntN.{pos};
+ghost use Prim.Native.Nat.{ℕ, _+_, _*_, _^_, _≤_, _<_};
+ghost use lib.Dec.{T};
+ghost use lib.ListN.{length, take};
+ghost use lib.IntN.{pos, negℤ};
 ghost use mathlib.Core.List.{map};
 ghost use Rattle.model.specs.Soft.{finite, mark};
-ghost use Rattle.model.specs.Lists.{part};
+ghost use Rattle.model.specs.Lists.{part, atMost, onOnes, over};
 ghost use Rattle.model.specs.Scan.{scan};
-ghost use Rattle.model.specs.Encoding.{isUnfrozen};
+ghost use Rattle.model.specs.Encoding.{isUnfrozen, knownWord};
 ghost use Rattle.model.specs.Kinds.{kindOf};
 ghost use Rattle.model.specs.Plans.{isCut};
 ghost use Rattle.messages.specs.Cut.{cutWords};
-ghost use Rattle.words.specs.Words.{stored, write, Holds, Words};
+ghost use Rattle.words.specs.Words.{word, stored, write, Holds, Word, Words};
 ghost use Rattle.halves.specs.Halves.{Places, Combinable, RightListAt, nodeWords};
 ghost use mathlib.Core.Bool.{true, false, cond, not, _||_};
 ghost use Rattle.scan.specs.Pairs.{pairWords};
-ghost use Rattle.scan.specs.Space.{CutNode, Room, Visited, Ready, Swept, withLlrs, Decodable};
+ghost use Rattle.scan.specs.Space.{CutNode, Room, Visited, Ready, Swept, llrsLoaded, Decodable, FrozenWord, flippedIf};
 
-// The message of a child whose message is fixed, at m: certain or 0 everywhere.
+// The message of a child whose message is fixed, at m: ∞ or 0 everywhere.
 fn fixed_child(w: &mut [i32], child: Fixed, m: usize, s: usize)
     requires { ⌜ m + s ≤ length (now w) ⌝ }
     ensures { λ _. ⌜ now (w .exit) ≡ write (now (w .entry)) m s (λ k. cond (child .certain) (pos mark) (pos 0)) ⌝ }
@@ -198,11 +203,48 @@ pub fn sweeps(work: &mut [i32], plan: &[u8], mask: &[u8], len: usize, stage: usi
     }
 }
 
-// The soft values of SCAN after `count` sweeps, by a plan that is allowed for the mask. The workspace holds what the sweeps along that plan left.
-pub fn soft_values(
+// The LLRs as the root's incoming list, at `list`, negated where the word of the frozen values has a 1. Without `ones` it has none, and is not read.
+fn load(work: &mut [i32], list: usize, llrs: &[i16], known: &[u8], ones: bool)
+    requires { ⌜ (list + length (now llrs) ≤ length (now work)) × (length (now known) ≡ length (now llrs)) ⌝ }
+    ensures { λ _. ⌜ now (work .exit) ≡ write (now (work .entry)) list (length (now (llrs .entry))) (word (flippedIf ones (now (known .entry)) (now (llrs .entry)))) ⌝ }
+{
+    if ones {
+        load_flipped(work, list, llrs, known);
+    } else {
+        load_llrs(work, list, llrs);
+    }
+}
+
+// The soft values, negated back where that word has a 1.
+fn flip_back(known: &[u8], out: &mut [i32], ones: bool)
+    requires { ⌜ length (now known) ≤ length (now out) ⌝ }
+    requires { ⌜ ((k : ℕ) → k < length (now known) → Word (word (now out) k)) ⌝ }
+    ensures { λ _. ⌜ now (out .exit) ≡ over (flippedIf ones (now (known .entry)) (take (length (now (known .entry))) (now (out .entry)))) (now (out .entry)) ⌝ }
+{
+    if ones {
+        flip_words(known, out);
+    }
+}
+
+// The word of the frozen values, where some position is frozen to 1.
+fn frozen_word(mask: &[u8], known: &mut [u8], stage: usize, ones: bool)
+    requires { ⌜ (length (now known) ≡ length (now mask)) × (length (now mask) ≡ 2 ^ stage) ⌝ }
+    ensures { λ _. ⌜ now (known .exit) ≡ cond ones (knownWord stage (now (mask .entry))) (now (known .entry)) ⌝ }
+{
+    if ones {
+        known_word(mask, known, stage);
+    }
+}
+
+// The soft values of SCAN after `count` sweeps, each position being frozen as the mask says, by a plan that is allowed for the mask. Where some position is
+// frozen to 1, `known` is the word of the frozen values: the LLRs go in negated where it has a 1, and the soft values are negated back there. So the workspace
+// holds what the sweeps along the plan left of the negated LLRs, its messages being those of the mask with 1 for 2.
+fn values_of(
     mask: &[u8],
     plan: &[u8],
     llrs: &[i16],
+    known: &[u8],
+    ones: bool,
     count: usize,
     len: usize,
     stage: usize,
@@ -210,10 +252,35 @@ pub fn soft_values(
     work: &mut [i32],
 )
     requires { ⌜ Decodable (now plan) (now mask) (now llrs) count len stage (length (now out)) (length (now work)) ⌝ }
+    requires { ⌜ FrozenWord (now mask) stage ones (now known) ⌝ }
     ensures { λ _. ⌜ now (out .exit) ≡ stored (now (out .entry)) 0 len (scan stage (now (mask .entry)) (map finite (now (llrs .entry))) count) ⌝ }
-    ensures { λ _. ⌜ Swept (now (plan .entry)) (now (mask .entry)) len stage true count (withLlrs len stage (now (llrs .entry)) (now (work .entry))) (now (work .exit)) ⌝ }
+    ensures { λ _. ⌜ Swept (now (plan .entry)) (now (mask .entry)) len stage true count (llrsLoaded len stage (onOnes negℤ (knownWord stage (now (mask .entry))) (now (llrs .entry))) (now (work .entry))) (now (work .exit)) ⌝ }
 {
-    load_llrs(work, len * (stage + 1), llrs);
+    load(work, len * (stage + 1), llrs, known, ones);
     sweeps(work, plan, mask, len, stage, count);
     copy_words(&work[..], stage * len, out, 0, len);
+    flip_back(known, out, ones);
+}
+
+// The same with room for that word, N bytes, which hold it afterwards. `ones` is false only where no position is frozen to 1.
+pub fn soft_values(
+    mask: &[u8],
+    plan: &[u8],
+    llrs: &[i16],
+    known: &mut [u8],
+    ones: bool,
+    count: usize,
+    len: usize,
+    stage: usize,
+    out: &mut [i32],
+    work: &mut [i32],
+)
+    requires { ⌜ Decodable (now plan) (now mask) (now llrs) count len stage (length (now out)) (length (now work)) ⌝ }
+    requires { ⌜ (length (now known) ≡ len) × (ones ≡ false → T (atMost 1 (now mask))) ⌝ }
+    ensures { λ _. ⌜ now (out .exit) ≡ stored (now (out .entry)) 0 len (scan stage (now (mask .entry)) (map finite (now (llrs .entry))) count) ⌝ }
+    ensures { λ _. ⌜ Swept (now (plan .entry)) (now (mask .entry)) len stage true count (llrsLoaded len stage (onOnes negℤ (knownWord stage (now (mask .entry))) (now (llrs .entry))) (now (work .entry))) (now (work .exit)) ⌝ }
+    ensures { λ _. ⌜ now (known .exit) ≡ cond ones (knownWord stage (now (mask .entry))) (now (known .entry)) ⌝ }
+{
+    frozen_word(mask, known, stage, ones);
+    values_of(mask, plan, llrs, known, ones, count, len, stage, out, work);
 }

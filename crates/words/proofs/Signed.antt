@@ -12,15 +12,11 @@ use mir.Val.{SFits, ofZ, toZ}
 use mir.Facts.{toZ-ofZ}
 use Rattle.words.specs.Words.{Word, flip}
 use Rattle.model.specs.Soft.{mark, negative, signed, differ}
+use Rattle.model.proofs.Bounds.{abs-neg}
 
 pub fits-word : (z : ℤ) → Word z → SFits w32 z
 fits-word (pos n) h = record { sfits = omega arith }
 fits-word (negsuc n) h = record { sfits = omega arith }
-
-pub abs-neg : (z : ℤ) → natAbs (negℤ z) ≡ natAbs z
-abs-neg (pos zero) = refl
-abs-neg (pos (suc n)) = refl
-abs-neg (negsuc n) = refl
 
 pub neg-fits : (z : ℤ) → Word z → SFits w32 (pos 0 -ℤ z)
 neg-fits z h = rw (+ℤ-idl (negℤ z)) (fits-word (negℤ z) (rw (abs-neg z) h))

@@ -1,8 +1,8 @@
--- 32-bit words that hold soft values: 2147483647 is the mark of certain. Assumes nothing: these are definitions.
+-- 32-bit words that hold soft values: 2147483647 is the mark of ∞, and minus that is the mark of -∞. Assumes nothing: these are definitions.
 use mathlib.Core.Path.{_≡_}
 use mathlib.Core.List.{List}
 use Prim.Native.Nat.{ℕ, zero, suc, _+_, _*_, _≤_, _<_}
-use lib.IntN.{ℤ, pos, negsuc, natAbs}
+use lib.IntN.{ℤ, pos, negsuc, negℤ, natAbs}
 use lib.ListN.{getD, set}
 use Rattle.model.specs.Lists.{tabulate}
 use Rattle.model.specs.Soft.{Soft, _at_, box, plus, mark, wordOf, softOf}
@@ -54,9 +54,9 @@ Holds w a n f = (k : ℕ) → k < n → word w (a + k) ≡ f k
 abbrev pub Words : List ℤ → ℕ → ℕ → Type 0
 Words w a h = (k : ℕ) → k < h → Word (word w (a + k))
 
--- a is finite, and the sum is a word
+-- a is finite, the sum is a word, and b is not minus the mark
 abbrev pub Added : ℤ → ℤ → Type 0
-Added a b = (natAbs a < mark) × Word (addWord a b)
+Added a b = (natAbs a < mark) × Word (addWord a b) × (b ≡ negℤ (pos mark) → ⊥)
 
 -- both are finite, and the sum is a word
 abbrev pub Finite : ℤ → ℤ → Type 0

@@ -58,7 +58,7 @@ pub fn flipped(neg: bool, x: i32) -> i32
 }
 
 // box of two words: the smaller of the two, both negated if their sum is negative. A negation is -1 less the number, plus 1, and the 1 is added once, after
-// the smaller is found. The mark is larger than every finite size, so box(a, ∞) = a needs no test.
+// the smaller is found. The mark is larger than every finite size, so box(a, ∞) = a and box(a, -∞) = -a need no test.
 pub fn box_words(a: i32, b: i32) -> i32
     requires { ⌜ Word a ⌝ }
     requires { ⌜ Word b ⌝ }
@@ -76,7 +76,7 @@ fn pick_word(b: bool, x: i32, y: i32) -> i32
     if b { x } else { y }
 }
 
-// The sum of a finite word and any word: the mark stays the mark.
+// The sum of a finite word and any word but minus the mark: the mark stays the mark.
 pub fn add_words(a: i32, b: i32) -> i32
     requires { ⌜ Added a b ⌝ }
     ensures { λ r. ⌜ r ≡ addWord a b ⌝ }

@@ -1,4 +1,4 @@
--- `decisions::frozen_check` meets its contract. The loop's invariant: the largest frozen bit so far and the positions that are left give the answer.
+-- `decisions::frozen_check` meets its contract. The loop's invariant: whether a frozen bit was wrong so far and the positions that are left give the answer.
 -- Assumes nothing.
 use mathlib.Core.Path.{_≡_, refl, sym, ap, _∙_}
 use mathlib.Core.Bool.{_&&_}
@@ -7,14 +7,15 @@ use native.Mathlib.Omega.{arith}
 use lib.Dec.{eqb}
 use lib.ListN.{length, drop}
 use Rattle.model.specs.Lists.{bit}
-use Rattle.model.specs.Encoding.{frozenZero}
+use Rattle.model.specs.Encoding.{maxMask, frozenMatch}
+use Rattle.model.proofs.Lists.{at-most-at}
 use Rattle.decisions.proofs.Folds.{check-more, check-end, bit-bool}
 use borrow.Author.Needs.{needs}
 use Rattle.decisions.proofs.frozen_check.Statement.{statement}
 use Rattle.decisions.proofs.frozen_check.Tie as tie
 
 abbrev Inv-loop : tie.InvT-loop
-Inv-loop mask u most₀ i₀ most i = (i ≤ length mask) × (frozenZero mask u ≡ (eqb most 0 && frozenZero (drop i mask) (drop i u)))
+Inv-loop mask u most₀ i₀ most i = (i ≤ length mask) × (frozenMatch mask u ≡ (eqb most 0 && frozenMatch (drop i mask) (drop i u)))
 
 abbrev μ-loop : tie.MeasureT-loop
 μ-loop mask u most₀ i₀ most i = length mask - i
@@ -22,23 +23,11 @@ abbrev μ-loop : tie.MeasureT-loop
 loop-holds : tie.Need-loop-holds Inv-loop μ-loop
 loop-holds c = (omega arith, refl)
 
-shared-slice-read-frozen-bit : tie.Need-shared-slice-read-frozen-bit Inv-loop μ-loop
-shared-slice-read-frozen-bit c = search needs
-
-shared-slice-read-frozen-bit-2 : tie.Need-shared-slice-read-frozen-bit-2 Inv-loop μ-loop
-shared-slice-read-frozen-bit-2 c = search needs
-
-frozen-bit-requires : tie.Need-frozen-bit-requires Inv-loop μ-loop
-frozen-bit-requires c κs = search needs
-
-larger-requires : tie.Need-larger-requires Inv-loop μ-loop
-larger-requires c κs = search needs
-
-add-i : tie.Need-add-i Inv-loop μ-loop
-add-i c = search needs
-
-loop-less : tie.Need-loop-less Inv-loop μ-loop
-loop-less c = search needs
+wrong-bit-requires : tie.Need-wrong-bit-requires Inv-loop μ-loop
+wrong-bit-requires c κs =
+    let l = c .before .before .before in
+    let start = l .before .before .before in
+    (at-most-at maxMask (start .args .mask .now) (l .loop .i) (start .pre .0 .1), start .pre .1 (l .loop .i) (search needs))
 
 loop-again : tie.Need-loop-again Inv-loop μ-loop
 loop-again c =
@@ -47,12 +36,9 @@ loop-again c =
     let i = l .loop .i in (
       search needs,
       l .loop .inv .1 ∙ check-more (a .mask .now) (a .u .now) i (l .loop .most) (search needs)
-          ∙ ap (λ (m : ℕ). eqb m 0 && frozenZero (drop (i + 1) (a .mask .now)) (drop (i + 1) (a .u .now)))
-          (sym (c .larger .ensures ∙ ap (max (l .loop .most)) (c .before .frozen-bit .ensures))),
+          ∙ ap (λ (m : ℕ). eqb m 0 && frozenMatch (drop (i + 1) (a .mask .now)) (drop (i + 1) (a .u .now)))
+          (sym (c .larger .ensures ∙ ap (max (l .loop .most)) (c .before .wrong-bit .ensures))),
     )
-
-cast-result : tie.Need-cast-result Inv-loop μ-loop
-cast-result c = search needs
 
 returns : tie.Need-returns Inv-loop μ-loop
 returns c =
@@ -68,12 +54,10 @@ frozen-check-spec =
     Inv-loop
     μ-loop
     loop-holds
-    shared-slice-read-frozen-bit
-    shared-slice-read-frozen-bit-2
-    frozen-bit-requires
-    larger-requires
-    add-i
-    loop-less
+    (λ c. search needs) (λ c. search needs)  -- mask[i] and u[i]
+    wrong-bit-requires
+    (λ c κs. search needs)
+    (λ c. search needs) (λ c. search needs)  -- i + 1, and less is left
     loop-again
-    cast-result
+    (λ c. search needs)
     returns)

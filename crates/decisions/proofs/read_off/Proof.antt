@@ -8,7 +8,7 @@ use Rattle.decisions.proofs.read_off.Statement.{statement}
 use Rattle.decisions.proofs.read_off.Tie as tie
 
 decide-signs-requires : tie.Need-decide-signs-requires
-decide-signs-requires c κs = c .before .before .before .before .pre .sums
+decide-signs-requires c κs = c .before .before .before .before .pre .decidable
 
 read-decided-requires : tie.Need-read-decided-requires
 read-decided-requires c κs =
@@ -20,6 +20,7 @@ read-decided-requires c κs =
         size = can .size;
         few = can .few;
         positions = can .positions;
+        bytes = can .bytes;
         bits = omega (arith, can .bits, signs .decide-signs .kept .1 .1 .0);
         payload-room = can .payload-room;
       },
@@ -41,7 +42,7 @@ returns c =
 decide-requires : tie.Need-decide-requires
 decide-requires c κs =
     let signs = c .before .before .before .before in
-    let can = signs .before .before .before .before .before .pre .sums in
+    let can = signs .before .before .before .before .before .pre .decidable in
     record {
       few = can .few;
       values = can .values;
@@ -60,7 +61,7 @@ cast-t23 c =
     let signs = c .before .before .before .before .before .before .before .before .before .before .before in
     let start = signs .before .before .before .before .before in
     let a = start .args in
-    record { fits = omega (arith, signs .decide-signs .ensures .0, ties-few (a .size) (decisionAt (a .llrs .now) (a .soft .now)), start .pre .sums .few) }
+    record { fits = omega (arith, signs .decide-signs .ensures .0, ties-few (a .size) (decisionAt (a .llrs .now) (a .soft .now)), start .pre .decidable .few) }
 
 returns-2 : tie.Need-returns-2
 returns-2 c =

@@ -1,17 +1,27 @@
 -- `decode::decode` meets its contract: its tests are the rows' in their order, and its steps give the definitions' answer and buffers. Assumes nothing.
 use mathlib.Core.Path.{_≡_, refl, sym, _∙_}
-use Prim.Native.Nat.{_*_, _≤_}
+use mathlib.Core.Bool.{Bool, false, not}
+use mathlib.Core.List.{List}
+use Prim.Native.Nat.{ℕ, _*_, _≤_}
 use native.Mathlib.Nat.{mul-le-mul}
 use native.Mathlib.Omega.{arith}
+use borrow.Author.Tests.{not-false}
+use lib.Dec.{T}
+use lib.IntN.{negℤ}
 use lib.ListN.{length}
+use lib.Seq.{length-take-le}
 use borrow.Author.Needs.{needs}
+use Rattle.model.specs.Lists.{atMost, onOnes}
+use Rattle.model.proofs.Lists.{true-T}
+use Rattle.model.specs.Encoding.{knownWord}
 use Rattle.model.specs.Refusals.{decodeNumber, maxSweeps}
 use Rattle.inputs.proofs.Rows.{passed-few}
-use Rattle.scan.specs.Space.{Decodable, withLlrs}
+use Rattle.scan.specs.Space.{Decodable, llrsLoaded}
 use Rattle.scan.proofs.Rounds.{cleared}
+use Rattle.scan.proofs.Flipped.{flipped-can}
 use Rattle.decode.specs.Calls.{lent, Given, given, callOf}
 use Rattle.decode.specs.Steps.{Passed}
-use Rattle.decode.proofs.Answers.{roomNumber, number-input, number-room, room-is, refused-outcome, words-fit, decodable, readable, accepted-outcome, cycles-small}
+use Rattle.decode.proofs.Answers.{roomNumber, number-input, number-room, room-is, refused-outcome, words-fit, hard-room, decodable, held-long, readable, accepted-outcome, cycles-small}
 use Rattle.decode.proofs.decode.Statement.{statement}
 use Rattle.decode.proofs.decode.Tie as tie
 
@@ -76,56 +86,99 @@ returns-2 : tie.Need-returns-2
 returns-2 c =
     refused-outcome (called (c .before .before .before .before)) (c .before .if2 .taken) (short-number (c .before .before)) (c .answer2 .ensures .0) (c .answer2 .ensures .1) (c .answer2 .ensures .2) (c .answer2 .ensures .3)
 
+-- ---- the steps of an accepted call
+abbrev tests : tie.After-soft-values → tie.Else2
+tests c = c .before .before .before .before
+
+abbrev run : tie.After-fill → tie.After-soft-values
+run c = c .before .before .before .before .before .before
+
+abbrev filled : tie.After-read-off → tie.After-fill
+filled c = c .before .before .before .before .before
+
+-- what the tests found
+abbrev found : (c : tie.Else2) → tie.After-input-tests
+found c = c .before .before .before .before .before
+
+-- the front of the hard word holds the word of the frozen values while the soft values are made
+fits : (c : tie.Else2) → length (called-roomy c .mask) ≤ length (called-roomy c .buffers .hard)
+fits c = hard-room (called-roomy c) (no-number c)
+
+slice-relend-prefix-soft-values : tie.Need-slice-relend-prefix-soft-values
+slice-relend-prefix-soft-values c = fits c
+
+slice-aggregate-soft-values : tie.Need-slice-aggregate-soft-values
+slice-aggregate-soft-values c = sym (length-take-le _ (called-roomy (c .before) .buffers .hard) (fits (c .before)))
+
+plain : {ones : Bool} (mask : List ℕ) → ones ≡ not (atMost 1 mask) → ones ≡ false → T (atMost 1 mask)
+plain mask e n = true-T (atMost 1 mask) (not-false (atMost 1 mask) (sym e ∙ n))
+
 soft-values-requires : tie.Need-soft-values-requires
-soft-values-requires c κs = roomy (c .before .before)
+soft-values-requires c κs =
+    let t = c .before .before .before in
+    (roomy t, (length-take-le _ (called-roomy t .buffers .hard) (fits t), plain (called-roomy t .mask) (found t .input-tests .ensures .ones-is (t .before .before .before .if1 .left))))
+
+held : (c : tie.After-soft-values) → length (c .soft-values .last .1 .1 .1 .0) ≡ length (called-roomy (tests c) .mask)
+held c = c .soft-values .kept .1 .1 .1 .0 ∙ length-take-le _ (called-roomy (tests c) .buffers .hard) (fits (tests c))
 
 fill-requires : tie.Need-fill-requires
 fill-requires c κs =
-    let can = roomy (c .before .before .before .before .before .before) in
-    omega (arith, can .room, c .before .before .before .soft-values .kept .1 .1 .1 .1 .1 .1 .1 .0)
+    let soft = c .before .before .before .before .before in
+    omega (arith, roomy (tests soft) .room, soft .soft-values .kept .1 .1 .1 .1 .1 .1 .1 .1 .1 .0)
 
 read-off-requires : tie.Need-read-off-requires
 read-off-requires c κs =
-    let tests = c .before .before .before .before .before .before .before .before .before .before .before in
-    let run = c .before .before .before .before .before .before .before .before .soft-values in
-    readable (called-roomy tests) (no-number tests) (passed (tests .before .before .before)) (run .last .1 .1 .1 .1 .1 .1 .0) (run .ensures .0) (tests .before .before .unfrozen-of .ensures)
+    let soft = c .before .before .before .before .before .before .before .before .before .before in
+    let t = tests soft in
+    readable (called-roomy t) (no-number t) (passed (t .before .before .before)) (soft .soft-values .last .1 .1 .1 .1 .1 .1 .1 .1 .0) (soft .soft-values .ensures .0) (held-long (called-roomy t) (no-number t) (soft .soft-values .last .1 .1 .1 .0) (held soft)) (t .before .before .unfrozen-of .ensures)
 
 cast-cycles : tie.Need-cast-cycles
-cast-cycles c = let pass = passed (c .before .before .before .before .before .before .before .before .before .before .before .before .before .before .before .before .before .before .before) in record { fits = omega (arith, pass .few) }
+cast-cycles c =
+    let t = tests (run (filled (c .before .before .before .before))) in
+    record { fits = omega (arith, passed (t .before .before .before) .few) }
 
 mul-cycles : tie.Need-mul-cycles
 mul-cycles c =
-    let pass = passed (c .before .before .before .before .before .before .before .before .before .before .before .before .before .before .before .before .before .before .before .before) in
-    let m : c .before .before .before .before .before .before .before .before .before .before .before .before .before .before .before .before .before .before .before .before .before .before .before .before .before .before .before .args .sweeps * c .before .before .before .before .before .before .before .before .before .before .before .before .before .before .before .before .before .before .before .before .before .before .input-tests .result .cycles ≤ maxSweeps * 4096 = mul-le-mul (pass .few) (cycles-small pass) in
+    let t = tests (run (filled (c .before .before .before .before .before))) in
+    let pass = passed (t .before .before .before) in
+    let m : called-roomy t .sweeps * found t .input-tests .result .cycles ≤ maxSweeps * 4096 = mul-le-mul (pass .few) (cycles-small pass) in
     record { fits = omega arith }
 
 answer-requires-3 : tie.Need-answer-requires-3
 answer-requires-3 c κs = search needs
 
+abbrev off : tie.After-answer3 → tie.After-read-off
+off c = c .before .before .before .before .before .before
+
 same-length : tie.Need-same-length
-same-length c = c .before .before .before .before .before .before .before .before .before .before .before .before .before .before .before .soft-values .kept .1 .1 .1 .1 .1 .1 .0
+same-length c = run (filled (off c)) .soft-values .kept .1 .1 .1 .1 .1 .1 .1 .1 .0
 
 same-length-2 : tie.Need-same-length-2
-same-length-2 c = c .before .before .before .before .before .before .read-off .kept .1 .1 .1 .0
+same-length-2 c =
+    let soft = run (filled (off c)) in
+    let t = tests soft in
+    off c .read-off .kept .1 .1 .1 .0 ∙ held-long (called-roomy t) (no-number t) (soft .soft-values .last .1 .1 .1 .0) (held soft)
 
 same-length-3 : tie.Need-same-length-3
-same-length-3 c = c .before .before .before .before .before .before .read-off .kept .1 .1 .1 .1 .0
+same-length-3 c = off c .read-off .kept .1 .1 .1 .1 .0
 
 same-length-4 : tie.Need-same-length-4
-same-length-4 c = c .before .before .before .before .before .before .before .before .before .before .before .fill .kept .0 ∙ c .before .before .before .before .before .before .before .before .before .before .before .before .before .before .before .soft-values .kept .1 .1 .1 .1 .1 .1 .1 .0
+same-length-4 c = filled (off c) .fill .kept .0 ∙ run (filled (off c)) .soft-values .kept .1 .1 .1 .1 .1 .1 .1 .1 .1 .0
 
 returns-3 : tie.Need-returns-3
 returns-3 c =
-    let tests = c .before .before .before .before .before .before .before .before .before .before .before .before .before .before .before .before .before .before in
-    let g = called-roomy tests in
-    let t = tests .before .before .before .before .before .input-tests .result .stage in
-    let run = c .before .before .before .before .before .before .before .before .before .before .before .before .before .before .before .soft-values in
-    let clear = c .before .before .before .before .before .before .before .before .before .before .before .fill in
-    let off = c .before .before .before .before .before .before .read-off in
-    let work = run .last .1 .1 .1 .1 .1 .1 .1 .0 in
-    let zeros = cleared (g .plan) (g .mask) (g .llrs) (g .sweeps) (length (g .mask)) t (g .buffers .soft) (g .buffers .work) (withLlrs (length (g .mask)) t (g .llrs) (g .buffers .work)) (roomy tests) refl work (run .ensures .1) (clear .last .0) (clear .ensures) in
-    accepted-outcome g (no-number tests) (passed (tests .before .before .before)) (run .last .1 .1 .1 .1 .1 .1 .0) (run .ensures .0) (sym (tests .if2 .left) ∙ short-number (tests .before))
-    (c .answer3 .ensures .0) (c .answer3 .ensures .1) (c .answer3 .ensures .2) (c .answer3 .ensures .3) (off .ensures) zeros
+    let clear = filled (off c) in
+    let soft = run clear in
+    let roomy-tests = tests soft in
+    let g = called-roomy roomy-tests in
+    let pass = passed (roomy-tests .before .before .before) in
+    let t = found roomy-tests .input-tests .result .stage in
+    let used = onOnes negℤ (knownWord t (g .mask)) (g .llrs) in
+    let zeros = cleared (g .plan) (g .mask) used (g .sweeps) (length (g .mask)) t (g .buffers .soft) (g .buffers .work) (llrsLoaded (length (g .mask)) t used (g .buffers .work)) (flipped-can (roomy roomy-tests) (knownWord t (g .mask))) refl
+    (soft .soft-values .last .1 .1 .1 .1 .1 .1 .1 .1 .1 .0) (soft .soft-values .ensures .1 .0) (clear .fill .last .0) (clear .fill .ensures) in
+    accepted-outcome g (no-number roomy-tests) pass (soft .soft-values .last .1 .1 .1 .1 .1 .1 .1 .1 .0) (soft .soft-values .ensures .0) (sym (roomy-tests .if2 .left) ∙ short-number (roomy-tests .before))
+    (c .answer3 .ensures .0) (c .answer3 .ensures .1) (c .answer3 .ensures .2) (c .answer3 .ensures .3)
+    (soft .soft-values .last .1 .1 .1 .0) (held soft) (off c .read-off .ensures) zeros
 
 pub decode-spec : {M : Type 1} → statement M
 decode-spec =
@@ -140,6 +193,8 @@ decode-spec =
     room-tests-requires
     answer-requires-2
     returns-2
+    slice-relend-prefix-soft-values
+    slice-aggregate-soft-values
     soft-values-requires
     fill-requires
     read-off-requires

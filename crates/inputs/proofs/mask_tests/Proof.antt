@@ -7,8 +7,8 @@ use Rattle.inputs.proofs.mask_tests.Tie as tie
 exponent-of-requires : tie.Need-exponent-of-requires
 exponent-of-requires c κs = search needs
 
-mask-bytes-requires : tie.Need-mask-bytes-requires
-mask-bytes-requires c κs = search needs
+largest-requires : tie.Need-largest-requires
+largest-requires c κs = search needs
 
 tested-requires : tie.Need-tested-requires
 tested-requires c κs = search needs
@@ -19,11 +19,11 @@ tested-requires-2 c κs = search needs
 returns : tie.Need-returns
 returns c =
     let second = c .before in
-    let bytes = second .before in
-    let stage = bytes .before in
-    mask-tests (stage .before .before .args .mask .now) (stage .exponent-of .ensures) (bytes .mask-bytes .ensures) (second .tested .ensures) (c .tested2 .ensures)
+    let most = second .before in
+    let stage = most .before in
+    mask-tests (stage .before .before .args .mask .now) (stage .exponent-of .ensures) (most .largest .result) (most .largest .ensures) (second .tested .ensures) (c .tested2 .ensures)
 
 pub mask-tests-spec : {M : Type 1} → statement M
 mask-tests-spec =
     tie.close
-    (tie.spec exponent-of-requires mask-bytes-requires tested-requires tested-requires-2 returns)
+    (tie.spec exponent-of-requires largest-requires tested-requires tested-requires-2 returns)

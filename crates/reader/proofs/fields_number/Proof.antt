@@ -38,7 +38,7 @@ returns c =
     let fourth = c .before .before .before .tested2 .ensures
     ∙ ap₂ (λ (b : Bool) (r : ℕ). cond b r 4) (c .before .before .before .before .before .sweeps-fit .ensures) (c .before .before .before .before .tested .ensures) in
     let third = c .before .before .tested3 .ensures ∙ ap (λ (r : ℕ). cond (eqb (a .llrs) (a .digits)) r 3) fourth in
-    let second = c .before .tested4 .ensures ∙ ap (λ (r : ℕ). cond (a .bits) r 2) third in
+    let second = c .before .tested4 .ensures ∙ ap (λ (r : ℕ). cond (a .bytes) r 2) third in
     c .tested5 .ensures ∙ ap₂ (λ (t r : ℕ). cond (not (eqb t 0)) r 1) (e .exponent-of .ensures) second
 
 pub fields-number-spec : {M : Type 1} → statement M

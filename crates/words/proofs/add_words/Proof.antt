@@ -1,4 +1,4 @@
--- `words::add_words` meets its contract: the sum by one choice, of 0 or a, is that of the two words, as a is finite. Assumes nothing.
+-- `words::add_words` meets its contract: the sum by one choice, of 0 or a, is that of the two words, as a is finite and b is not minus the mark. Assumes nothing.
 use mathlib.Core.Path.{_≡_, sym, ap, ap₂, _∙_, subst}
 use mathlib.Core.Bool.{cond}
 use lib.IntN.{ℤ, pos, _+ℤ_}
@@ -21,7 +21,7 @@ sum-is c =
     let a = s .args in
     ap₂ (λ (x y : ℤ). x +ℤ y) (toZ-ofZ (s .fits .b))
     (back (c .pick-word .ok) ∙ c .pick-word .ensures ∙ ap (λ (z : ℤ). cond (eqb (ofZ w32 (a .b)) mark) (pos 0) z) (toZ-ofZ (s .fits .a)))
-    ∙ add-by (eqb (ofZ w32 (a .b)) mark) (a .a) (a .b) (λ e. mark-yes (a .b) (s .fits .b) (eqb-true _ _ e)) (λ e. mark-no (a .b) (eqb-false _ _ e)) (s .pre .0)
+    ∙ add-by (eqb (ofZ w32 (a .b)) mark) (a .a) (a .b) (λ e. mark-yes (a .b) (s .fits .b) (eqb-true _ _ e)) (λ e. mark-no (a .b) (eqb-false _ _ e)) (s .pre .0) (s .pre .2)
 
 add-result : tie.Need-add-result
 add-result c =

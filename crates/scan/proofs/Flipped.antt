@@ -1,0 +1,120 @@
+-- Positions frozen to 1: LLRs negated where the word of the frozen values has a 1 give soft values that are negated back there. Assumes nothing.
+use mathlib.Core.Path.{_≡_, refl, sym, ap, _∙_, subst}
+use mathlib.Core.Bool.{Bool, true, false, cond}
+use mathlib.Core.List.{List, _++_, map}
+use Prim.Native.Nat.{ℕ, _*_, _+_, _^_, _≤_, _<_}
+use native.Mathlib.Nat.{zero-add}
+use native.Mathlib.Omega.{arith}
+use lib.Dec.{T, eqb}
+use lib.IntN.{ℤ, pos, negℤ, natAbs}
+use lib.ListN.{length, getD, take, drop, length-map, take-append-drop}
+use lib.Seq.{length-take-le}
+use Rattle.model.specs.Lists.{tabulate, atMost, onOnes, over}
+use Rattle.model.specs.Soft.{Soft, finite, softZero, _at_, wordOf, maxLlr}
+use Rattle.model.specs.Encoding.{knownWord, frozenToZero}
+use Rattle.model.specs.Scan.{scan}
+use Rattle.model.specs.Bounds.{Under, limit}
+use Rattle.model.proofs.Lists.{cond-both, length-onOnes, onOnes-at, onOnes-none}
+use Rattle.model.proofs.Bounds.{abs-neg, ones-none, soft-under, cap-limit, under-mono}
+use Rattle.model.proofs.FrozenPositions.{toZero-same}
+use Rattle.model.proofs.KnownOnes.{plain-word}
+use Rattle.model.proofs.Flips.{length-soft}
+use Rattle.model.proofs.Theorems.{words-ones}
+use Rattle.words.specs.Words.{Word, word, write, stored}
+use Rattle.words.proofs.Laws.{word-in}
+use Rattle.decisions.proofs.Reading.{take-over, drop-over, write-front}
+use Rattle.scan.specs.Space.{Decodable, FrozenWord, flippedIf, llrsLoaded}
+use Rattle.scan.proofs.Keep.{stored-at}
+use Rattle.scan.proofs.Rounds.{tabulate-map, small-list}
+
+-- ---- the front of a buffer
+-- overwritten by itself
+pub over-same : {A : Type 0} (n : ℕ) (l : List A) → n ≤ length l → l ≡ over (take n l) l
+unfolding over
+over-same {A} n l h = sym (ap (λ (k : ℕ). take n l ++ drop k l) (length-take-le n l h) ∙ take-append-drop n l)
+
+-- a change of the overwritten front is a change of what was written
+over-changed : {A : Type 0} (f : List A → List A) (new old : List A) (n : ℕ) → length new ≡ n → length (f new) ≡ n → over (f (take n (over new old))) (over new old) ≡ over (f new) old
+unfolding over
+over-changed {A} f new old n e e′ =
+    ap (λ (l : List A). over (f l) (over new old)) (take-over new old n e)
+    ∙ ap (λ (k : ℕ). f new ++ drop k (over new old)) e′ ∙ ap (λ (l : List A). f new ++ l) (drop-over new old n e)
+    ∙ ap (λ (k : ℕ). f new ++ drop k old) (sym e′)
+
+-- overwritten by soft values
+pub stored-front : (w : List ℤ) (n : ℕ) (M : List Soft) → length M ≡ n → n ≤ length w → stored w 0 n M ≡ over (map wordOf M) w
+stored-front w n M e h =
+    write-front (pos 0) w n (λ k. wordOf (M at k)) h
+    ∙ ap (λ (l : List ℤ). over l w) (ap (λ (m : ℕ). tabulate m (λ k. wordOf (M at k))) (sym e) ∙ tabulate-map wordOf M softZero)
+
+-- ---- numbers negated where the word of the frozen values has a 1: with bytes 0 and 1 there is no such place
+flipped-is : (mask : List ℕ) (t : ℕ) (ones : Bool) (known : List ℕ) → FrozenWord mask t ones known → (xs : List ℤ) → flippedIf ones known xs ≡ onOnes negℤ (knownWord t mask) xs
+flipped-is mask t true known f xs = ap (λ (w : List ℕ). onOnes negℤ w xs) (f .word-is refl)
+flipped-is mask t false known f xs =
+    sym (ap (λ (m : List ℕ). onOnes negℤ (knownWord t m) xs) (sym (f .none refl)) ∙ ap (λ (w : List ℕ). onOnes negℤ w xs) (plain-word t mask) ∙ onOnes-none negℤ (2 ^ t) xs)
+
+-- the word of the frozen values as it is made
+pub frozen-known : (mask : List ℕ) (t : ℕ) (ones : Bool) (room known : List ℕ) → length known ≡ length mask → known ≡ cond ones (knownWord t mask) room → (ones ≡ false → T (atMost 1 mask)) → FrozenWord mask t ones known
+frozen-known mask t ones room known long e plain = record {
+  long = long;
+  word-is = λ o. e ∙ ap (λ (b : Bool). cond b (knownWord t mask) room) o;
+  none = λ o. toZero-same mask (plain o);
+}
+
+-- ---- soft values
+module _ {plan mask : List ℕ} {llrs : List ℤ} {count N t out words : ℕ} (can : Decodable plan mask llrs count N t out words) where
+  -- one of the mask with 1 for 2 is certain of a 0 or of a finite size
+  pub soft-limited : (j : ℕ) → j < N → Under false limit (scan t (frozenToZero mask) (map finite llrs) count at j)
+  soft-limited j lt =
+      under-mono false (scan t (frozenToZero mask) (map finite llrs) count at j) (let c = cap-limit t (can .low) in omega arith)
+      (soft-under false t (frozenToZero mask) (ones-none t mask) (map finite llrs) (small-list can) count j (omega (arith, can .size)))
+
+  -- negated LLRs are as good
+  pub flipped-can : (known : List ℕ) → Decodable plan mask (onOnes negℤ known llrs) count N t out words
+  flipped-can known = record {
+    size = can .size;
+    low = can .low;
+    positions = can .positions;
+    values = length-onOnes negℤ known llrs ∙ can .values;
+    small = λ j h. subst (λ (z : ℤ). natAbs z ≤ maxLlr) (sym (onOnes-at negℤ (pos 0) known llrs j (λ past. refl)))
+        (cond-both (λ (z : ℤ). natAbs z ≤ maxLlr) (eqb (getD known j 0) 1) (subst (λ (n : ℕ). n ≤ maxLlr) (sym (abs-neg (word llrs j))) (can .small j h)) (can .small j h));
+    allowed = can .allowed;
+    some-sweep = can .some-sweep;
+    answer = can .answer;
+    room = can .room;
+  }
+
+module _ {plan mask : List ℕ} {llrs : List ℤ} {count N t words : ℕ} (out : List ℤ) (can : Decodable plan mask llrs count N t (length out) words) where
+  -- the LLRs that the sweeps use
+  abbrev used : List ℤ
+  used = onOnes negℤ (knownWord t mask) llrs
+
+  -- the soft values of the negated LLRs and of the mask with 1 for 2
+  abbrev plainSoft : List Soft
+  plainSoft = scan t (frozenToZero mask) (map finite used) count
+
+  -- their words are not the least number, so they can be negated
+  pub soft-words : (o : List ℤ) → o ≡ stored out 0 N plainSoft → (j : ℕ) → j < N → Word (word o j)
+  soft-words o e j lt =
+      subst Word (sym (ap (word o) (sym (zero-add j)) ∙ stored-at out o 0 N (λ k. wordOf (plainSoft at k)) j e lt (omega (arith, can .answer))))
+      (word-in false limit (plainSoft at j) (omega arith) (soft-limited (flipped-can can (knownWord t mask)) j lt))
+
+  module _ {ones : Bool} {known : List ℕ} (frozen : FrozenWord mask t ones known) where
+    pub loaded-is : (w w₁ : List ℤ) → w₁ ≡ write w (N * (t + 1)) (length llrs) (word (flippedIf ones known llrs)) → w₁ ≡ llrsLoaded N t used w
+    loaded-is w w₁ e =
+        e ∙ ap (λ (xs : List ℤ). write w (N * (t + 1)) (length llrs) (word xs)) (flipped-is mask t ones known frozen llrs)
+        ∙ ap (λ (n : ℕ). write w (N * (t + 1)) n (word used)) (sym (length-onOnes negℤ (knownWord t mask) llrs))
+
+    pub flipped-back : (o v : List ℤ) → o ≡ stored out 0 N plainSoft → v ≡ over (flippedIf ones known (take (length known) o)) o → v ≡ stored out 0 N (scan t mask (map finite llrs) count)
+    flipped-back o v e q =
+        q ∙ ap (λ (l : List ℤ). over l o) (flipped-is mask t ones known frozen (take (length known) o))
+        ∙ ap (λ (l : List ℤ). over (onOnes negℤ (knownWord t mask) (take (length known) l)) l) (e ∙ stored-front out N plainSoft (sized (frozenToZero mask) used) (can .answer))
+        ∙ over-changed (onOnes negℤ (knownWord t mask)) (map wordOf plainSoft) out (length known) long (length-onOnes negℤ (knownWord t mask) (map wordOf plainSoft) ∙ long)
+        ∙ ap (λ (l : List ℤ). over l out) (sym (words-ones t mask llrs count))
+        ∙ sym (stored-front out N (scan t mask (map finite llrs) count) (sized mask llrs) (can .answer))
+      where
+        sized : (m : List ℕ) (l : List ℤ) → length (scan t m (map finite l) count) ≡ N
+        sized m l = length-soft t m (map finite l) count ∙ sym (can .size)
+
+        long : length (map wordOf plainSoft) ≡ length known
+        long = length-map plainSoft wordOf ∙ sized (frozenToZero mask) used ∙ sym (frozen .long ∙ can .positions)
