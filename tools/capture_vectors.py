@@ -22,7 +22,8 @@ import sys
 import tempfile
 import time
 
-from model import ALLOWED, LARGEST_LLR, MOST_SWEEPS, cuts, cycles, decoded, drawn_mask, some_of_each, transform
+from model import (ALLOWED, LARGEST_LLR, MOST_MASK, MOST_SWEEPS, cut_kinds, cycles, decoded, drawn_mask, placed, some_of_each, transform,
+                   with_ones)
 
 random.seed(5)
 SIGNATURE = bytes.fromhex('44524E31')
@@ -67,7 +68,7 @@ def capture_number(data):
     if not found:
         return 14
     mask, frames = found
-    number = first_failed([(1, len(mask) in ALLOWED), (2, all(byte <= 1 for byte in mask))])
+    number = first_failed([(1, len(mask) in ALLOWED), (2, all(byte <= MOST_MASK for byte in mask))])
     return number or next(filter(None, map(frame_number, frames)), 0)
 
 
@@ -163,7 +164,7 @@ def totals(file):
             ('every drain', (1, 0), [frame(d, 1, [1, 2]) for d in range(64)], ''.join(f'{d} 1 1 0 2\n' for d in range(64))),
             ('300 frames of a drain', (1, 0), [frame(40, 8, [1, -2])] * 300, '40 300 300 300 4800\n')]:
         file.case(name, capture(mask, frames), expected)
-    file.case('several drains', drawn_capture(16, 2, 12))
+    file.case('several drains', drawn_capture(16, 3, 12))
     file.group('totals')
 
 
@@ -183,6 +184,24 @@ def undecided(file):
             ('undecided in the first sweep', MASK_4, [frame(1, s, [5, 3, -3, 4]) for s in (1, 2)], '1 2 1 3 18\n')]:
         file.case(name, capture(mask, frames), expected)
     file.group('undecided bits')
+
+
+def known_ones(file):
+    """Positions frozen to 1. The hard bits that they fix differ from an LLR of the other sign, and the check compares with them."""
+    for name, mask, frames, expected in [
+            ('no frames, all frozen to 1', (2, 2), [], ''),
+            ('bits fixed to 1', (1, 2), [frame(3, 1, [7, -4]), frame(3, 8, [-7, -4])], '3 2 2 1 0\n'),
+            ('bits fixed to 0 and to 1', (2, 2), [frame(3, 1, [7, -4]), frame(3, 8, [-7, 4])], '3 2 2 2 0\n'),
+            ('bits fixed to 1, LLRs 0', (1, 2), [frame(3, 1, [0, 0])], '3 1 1 2 0\n'),
+            ('bits fixed to 1, LLRs at both ends', (1, 2), [frame(3, 1, [LARGEST_LLR, -LARGEST_LLR])], '3 1 1 1 0\n'),
+            ('an SPC node', (2, 0), [frame(3, 1, [7, -4]), frame(3, 1, [7, 4])], '3 2 2 1 4\n'),
+            ('an SPC node with undecided bits', (2, 0), [frame(3, 1, [5, 5])], '3 1 0 2 2\n'),
+            ('an SPC node and a rate-0 node', (1, 0, 1, 2), [frame(s, s, LLRS_4) for s in (1, 2)], '1 1 0 2 6\n2 1 1 3 12\n'),
+            ('a REP node and an SPC node', (2, 1, 2, 0, 1, 0, 0, 0), [frame(7, 1, LLRS_8)], '7 1 1 2 10\n'),
+            ('all of N 1024, K 0', [2] * 1024, [frame(5, 1, [1] * 1024)] * 3, '5 3 3 3 0\n'),
+            ('the last of N 1024, K 0', [1] * 1023 + [2], [frame(5, 1, [1] * 1024)] * 3, '5 3 3 3072 0\n')]:
+        file.case(name, capture(mask, frames), expected)
+    file.group('positions frozen to 1')
 
 
 def full(file):
@@ -270,9 +289,10 @@ def masks(file):
         number = 0 if n in ALLOWED else 1
         file.case(f'mask of {n}', capture([1] * n, []), number or '')
         file.case(f'mask of {n}, one frame', capture([1] * n, [frame(3, 1, [1] * n)]), number or '3 1 1 0 0\n')
-        file.case(f'mask of {n}, last byte 2', capture([1] * (n - 1) + [2], []), number or 2)
+        file.case(f'mask of {n}, last byte 2', capture([1] * (n - 1) + [2], []), number or '')
+        file.case(f'mask of {n}, last byte 3', capture([1] * (n - 1) + [3], []), number or 2)
         file.case(f'mask of {n}, first byte 255, one frame', capture([255] + [1] * (n - 1), [frame(3, 1, [1] * n)]), number or 2)
-    for byte in (2, 3, 48, 49, 128, 255):
+    for byte in (3, 4, 48, 49, 50, 128, 255):
         file.case(f'mask byte {byte}', capture((1, byte), []), 2)
         file.case(f'mask byte {byte}, one frame', capture((byte, 0), [GOOD]), 2)
     file.group('masks')
@@ -309,7 +329,7 @@ def sets_of_faults(file):
         for set_of in range(64):
             faults = [f for k, f in enumerate(order) if set_of >> k & 1]
             m = n + 1 if 1 in faults else n
-            mask = [1] * (m - 1) + [2 if 2 in faults else 0]
+            mask = [1] * (m - 2) + [2, 3 if 2 in faults else 0]
             llrs = [1] * (m - 1) + [LEAST_16 if 7 in faults else -1]
             bad = frame(64 if 15 in faults else 63, 9 if 4 in faults else 8, llrs)
             data = capture(mask, [frame(1, 1, [1] * m)] * (count - 1) + [bad], first_at=int(14 in faults))
@@ -327,19 +347,19 @@ def drawn_llrs(n):
 
 def word_llrs(mask):
     """The signs of a drawn word, one in a hundred of them wrong: few of these frames have undecided bits."""
-    word = transform([0 if frozen else random.getrandbits(1) for frozen in mask])
+    word = transform(placed(mask, [random.getrandbits(1) for _ in mask]))
     return [random.randint(1, 200) * (-1 if bit ^ (random.random() < .01) else 1) for bit in word]
 
 
 def drawn_capture(n, style, count, words=0):
-    """So many frames, and so many more with the signs of words."""
-    drains, mask = random.sample(range(MOST_DRAIN + 1), max(1, count // 2)), drawn_mask(n, style)
+    """So many frames, and so many more with the signs of words. Of three captures two have positions frozen to 1, by chance."""
+    drains, mask = random.sample(range(MOST_DRAIN + 1), max(1, count // 2)), with_ones(drawn_mask(n, style), (.5, .1, 0)[style % 3])
     draws = [lambda: drawn_llrs(n)] * count + [lambda: word_llrs(mask)] * words
     return capture(mask, [frame(random.choice(drains), random.randint(1, MOST_SWEEPS), llrs()) for llrs in draws])
 
 
 def drawn(file):
-    kinds, ends = set(), {}
+    kinds, kinds_of_ones, ends = set(), set(), {}
     for n in ALLOWED:
         most = min(12, 2048 // n)
         for k in range(10 if n < 64 else 3):
@@ -347,10 +367,12 @@ def drawn(file):
             file.case(f'N {n} drawn {k}', data)
             assert not answer(data).startswith('no')
             mask, frames = layout(data)
-            kinds.update(cuts(list(mask)))
+            all_kinds, of_ones = cut_kinds(mask)
+            kinds.update(all_kinds)
+            kinds_of_ones.update(of_ones)
             ends.setdefault(n, set()).update(decoded(mask, *fields(f)[1:])[3:] for f in frames)
         file.group(f'N {n} drawn')
-    assert len(kinds) == 8, kinds
+    assert len(kinds) == 8 and len(kinds_of_ones) == 7, (kinds, kinds_of_ones)
     for found in ends.values():
         assert (1, 0) in found and any(undecided for _, undecided in found), ends
     assert (0, 0) in set().union(*ends.values())
@@ -359,7 +381,7 @@ def drawn(file):
 def changed(data):
     """A capture with one change."""
     place = random.randrange(len(data))
-    byte = bytes([random.choice([0, 1, 2, 8, 9, 63, 64, 128, 255])])
+    byte = bytes([random.choice([0, 1, 2, 3, 8, 9, 63, 64, 128, 255])])
     return random.choice([
         lambda: data[:place] + byte + data[place + 1:],
         lambda: data[:place] + byte + data[place:],
@@ -429,7 +451,7 @@ def run(program, captures):
 
 def main():
     file = File()
-    for part in (totals, undecided, lengths, trailers, masks, frame_faults, sets_of_faults, full, changed_captures, drawn):
+    for part in (totals, undecided, known_ones, lengths, trailers, masks, frame_faults, sets_of_faults, full, changed_captures, drawn):
         part(file)
     if sys.argv[1:2] == ['--run']:
         run(sys.argv[2], file.captures)

@@ -15,7 +15,8 @@ import random
 import re
 import sys
 
-from model import ALLOWED, CERTAIN, LARGEST_LLR, MOST_SWEEPS, cuts, cycles, decoded, digits_of, drawn_mask, some_of_each, transform
+from model import (ALLOWED, LARGEST_LLR, MOST_MASK, MOST_SWEEPS, cut_kinds, cycles, decoded, digits_of, drawn_mask, placed, some_of_each, transform,
+                   with_ones)
 
 random.seed(13)
 LONGEST = 16384
@@ -37,18 +38,18 @@ def read(data):
     digits, *numbers = line.split(b' ')
     mask = [digit - ord('0') for digit in digits]
     sweeps, *llrs = map(value, numbers)
-    tests = [(13, all(-2 ** 31 <= x < 2 ** 31 for x in [sweeps, *llrs])), (1, len(mask) in ALLOWED), (2, max(mask) <= 1),
+    tests = [(13, all(-2 ** 31 <= x < 2 ** 31 for x in [sweeps, *llrs])), (1, len(mask) in ALLOWED), (2, max(mask) <= MOST_MASK),
              (3, len(llrs) == len(mask)), (4, 1 <= sweeps <= MOST_SWEEPS), (7, all(abs(x) <= LARGEST_LLR for x in llrs))]
     return next((number for number, passed in tests if not passed), 0), mask, sweeps, llrs
 
 
 def answer(data):
+    """Python writes the certain values as they are to be printed, inf and -inf."""
     number, mask, sweeps, llrs = read(data)
     if number:
         return b'no %d\n' % number
     soft, hard, payload, check, undecided = decoded(mask, sweeps, llrs)
-    values = ['inf' if x is CERTAIN else x for x in soft]
-    fields = ['ok', sweeps * cycles(mask), *values, digits_of(hard), digits_of(payload) or '-', check, undecided]
+    fields = ['ok', sweeps * cycles(mask), *soft, digits_of(hard), digits_of(payload) or '-', check, undecided]
     return ' '.join(map(str, fields)).encode() + b'\n'
 
 
@@ -157,6 +158,36 @@ def undecided(file):
             ('in the second sweep, 2 sweeps', b'1010 2 -1 5 3 -5\n', 'ok 20 1 -1 -3 5 2022 22 0 3\n')]:
         file.case(name, line, expected)
     file.group('undecided bits')
+
+
+def known_ones(file):
+    """Positions frozen to 1. Where all are frozen, the last alone to 1, every bit of the word is 1; where all are frozen to 1, its last bit
+    alone is."""
+    for name, line, expected in [
+            ('REP and SPC', b'21201000 1 3 -2 5 1 4 -6 2 -1\n', 'ok 10 -1 0 -2 1 -1 0 -4 3 01000110 0110 1 0\n'),
+            ('type IV of 8', b'21200000 1 3 -2 5 1 4 -6 2 -1\n', 'ok 4 -1 0 -2 -1 -1 0 -4 1 01020112 22222 0 2\n'),
+            ('type II of 8', b'12112000 1 3 -2 5 1 4 -6 2 -1\n', 'ok 4 -4 6 2 0 -3 2 5 2 10000100 100 1 0\n'),
+            ('type I of 8', b'21121100 1 3 -2 5 1 4 -6 2 -1\n', 'ok 2 1 8 -9 5 0 0 2 -5 00100101 11 1 0\n'),
+            ('type III of 4', b'1200 1 1 2 3 4\n', 'ok 2 -3 -4 -1 -2 1100 00 1 0\n'),
+            ('REP of 4', b'2110 1 5 -3 2 1\n', 'ok 2 0 -2 -7 -6 0111 1 1 0\n'),
+            ('SPC of 4', b'2000 1 5 -3 2 1\n', 'ok 2 1 -1 1 2 0100 100 1 0\n'),
+            ('SPC of 2', b'20 1 7 -4\n', 'ok 2 4 -7 01 1 1 0\n'),
+            ('SPC and rate-0', b'1012 1 5 -3 2 1\n', 'ok 6 1 -2 -inf -inf 0111 0 0 0\n'),
+            ('SPC and rate-0, 2 sweeps', b'1012 2 5 -3 2 1\n', 'ok 12 -3 5 -inf -inf 0011 1 1 0\n'),
+            ('first of 2', b'21 1 7 -4\n', 'ok 0 -inf inf 10 - 1 0\n'),
+            ('last of 2', b'12 8 7 -4\n', 'ok 0 -inf -inf 11 - 1 0\n'),
+            ('both of 2', b'22 1 7 -4\n', 'ok 0 inf -inf 01 - 1 0\n'),
+            ('both of 2, LLRs 0', b'22 1 0 0\n', 'ok 0 inf -inf 01 - 1 0\n'),
+            ('both of 2, LLRs at both ends', b'22 1 -32767 32767\n', 'ok 0 inf -inf 01 - 1 0\n'),
+            ('all of 4', b'2222 1 1 2 3 4\n', 'ok 0 inf inf inf -inf 0001 - 1 0\n'),
+            ('last of 4', b'1112 1 1 2 3 4\n', 'ok 0 -inf -inf -inf -inf 1111 - 1 0\n'),
+            ('second alone', b'02 1 7 -4\n', 'ok 2 0 -inf 01 1 1 0\n'),
+            ('second alone, one bit undecided', b'02 1 0 -4\n', 'ok 2 0 -inf 21 2 0 1\n'),
+            ('certain of 0, certain of 1, and finite values', b'12021121 3 1 -2 3 -4 5 -6 7 -8\n', 'ok 30 -3 inf -1 -inf -inf inf -inf inf '),
+            ('largest and least sum', b'21111110 1 -32767' + b' 32767' * 7 + b'\n', 'ok 2 -229369' + ' 229369' * 7 + ' 10000000 0 1 0\n'),
+            ('LLR and soft value add up to 0', b'20 1 5 5\n', 'ok 2 -5 -5 22 2 0 2\n')]:
+        file.case(name, line, expected)
+    file.group('positions frozen to 1')
 
 
 def line_ends(file):
@@ -303,8 +334,10 @@ def masks(file):
     def llrs(n):
         return b' 1' + b' 1' * n + b'\n'
     for name, line, expected in [
-            ('digit 2', b'12 1 7 -4\n', 2),
-            ('digit 2 first', b'20 1 7 -4\n', 2),
+            ('digit 2', b'12 1 7 -4\n', 'ok 0 '),
+            ('digit 3', b'13 1 7 -4\n', 2),
+            ('digit 3 first', b'30 1 7 -4\n', 2),
+            ('digit 3 among 2s', b'2232' + llrs(4), 2),
             ('digit 9', b'1091 1 5 -3 2 1\n', 2),
             ('digit 9 last', b'1119' + llrs(4), 2),
             ('digits 2 to 9', b'23456789' + llrs(8), 2),
@@ -321,6 +354,8 @@ def masks(file):
             ('2048 digits', b'0' * 2048 + b' 1 1\n', 1),
             ('4096 digits', b'1' * 4096 + b' 1 1\n', 1),
             ('1024 digits, 1 LLR', b'0' * 1024 + b' 1 1\n', 3),
+            ('1024 digits 2, 1 LLR', b'2' * 1024 + b' 1 1\n', 3),
+            ('1024 digits, the last a 3, 1 LLR', b'2' * 1023 + b'3 1 1\n', 2),
             ('1023 digits, 1 LLR', b'0' * 1023 + b' 1 1\n', 1),
             ('1025 digits, 1 LLR', b'0' * 1025 + b' 1 1\n', 1),
             ('no LLR', b'10 1\n', 3),
@@ -374,6 +409,8 @@ def large_lines(file):
         for name, mask, sweeps, llrs, expected in [
                 ('K 0', '1' * n, 8, [-7] * n, 'ok 0' + ' inf' * n + ' ' + '0' * n + ' - 1 0\n'),
                 ('K 0, LLRs 0', '1' * n, 1, [0] * n, 'ok 0' + ' inf' * n + ' ' + '0' * n + ' - 1 0\n'),
+                ('K 0, last frozen to 1', '1' * m + '2', 8, [7] * n, 'ok 0' + ' -inf' * n + ' ' + '1' * n + ' - 1 0\n'),
+                ('K 0, all frozen to 1', '2' * n, 1, [0] * n, 'ok 0' + ' inf' * m + ' -inf ' + '0' * m + '1 - 1 0\n'),
                 ('K N', '0' * n, 8, [-7] * n, 'ok 0' + ' 0' * n + ' ' + '1' * n + ' ' + '0' * m + '1 1 0\n'),
                 ('K N, LLRs 0', '0' * n, 8, [0] * n, 'ok 0' + ' 0' * n + ' ' + '2' * n + ' ' + '2' * n + f' 0 {n}\n'),
                 ('K N, last LLR 0', '0' * n, 1, [-7] * m + [0], 'ok 0' + ' 0' * n + ' ' + '1' * m + '2 ' + '2' * n + ' 0 1\n'),
@@ -381,18 +418,21 @@ def large_lines(file):
                 ('REP', '1' * m + '0', 1, [-32767] * n, 'ok 2' + f' {-32767 * m}' * n + ' ' + '1' * n + ' 1 1 0\n'),
                 ('REP, 8 sweeps', '1' * m + '0', 8, [32767] * n, 'ok 16' + f' {32767 * m}' * n + ' ' + '0' * n + ' 0 1 0\n'),
                 ('REP, sum 0', '1' * m + '0', 8, [-3, 3] * (n // 2), 'ok 16' + ' 3 -3' * (n // 2) + ' ' + '2' * n + f' 2 0 {n}\n'),
+                ('REP, first frozen to 1', '2' + '1' * (n - 2) + '0', 1, [-7] + [7] * m, 'ok 2' + f' {-7 * m}' + f' {7 * m}' * m + ' 1' + '0' * m + ' 0 1 0\n'),
                 ('SPC', '1' + '0' * m, 1, [5] * n, 'ok 2' + ' 5' * n),
                 ('SPC, one negative', '1' + '0' * m, 3, [5] * m + [-1], 'ok 6' + ' -1' * m + ' 5 '),
+                ('SPC, frozen to 1', '2' + '0' * m, 1, [5] * n, 'ok 2' + ' -5' * n + ' ' + '2' * n + ' ' + '2' * m + f' 0 {n}\n'),
                 ('type I', '1' * (n - 2) + '00', 2, [2, -3] * (n // 2), 'ok 4' + f' {2 * (n // 2 - 1)} {-3 * (n // 2 - 1)}' * (n // 2)),
                 ('type III', '11' + '0' * (n - 2), 8, [2, -3] * (n // 2), 'ok 16' + ' 2 -3' * (n // 2)),
                 ('type II', '1' * (n - 3) + '000', 2, [1, 2, -1, 1] * (n // 4), 'ok 8' + f' -1 {n // 4 - 2} 1 -1' * (n // 4)),
                 ('type IV', '111' + '0' * (n - 3), 8, [20, -3, 5, -7] * (n // 4), 'ok 32' + ' 15 -3 5 -7' * (n // 4)),
                 ('alternating mask', '10' * (n // 2), 1, [1, -2, 3, 4] * (n // 4), f'ok {4 * n - 6} '),
+                ('alternating mask, half of it frozen to 1', '2010' * (n // 4), 1, [1, -2, 3, 4] * (n // 4), f'ok {4 * n - 6} '),
                 ('other half frozen', '0' * (n // 2) + '1' * (n // 2), 8, [1, -2, 3, 4] * (n // 4), 'ok 16 '),
                 ('1 LLR fewer', '10' * (n // 2), 1, [1] * m, 3),
                 ('1 LLR more', '10' * (n // 2), 1, [1] * (n + 1), 3),
                 ('sweeps 9', '10' * (n // 2), 9, [1] * n, 4),
-                ('last digit 2', '10' * (n // 2 - 1) + '12', 1, [1] * n, 2),
+                ('last digit 3', '10' * (n // 2 - 1) + '13', 1, [1] * n, 2),
                 ('last LLR 32768', '10' * (n // 2), 1, [1] * m + [32768], 7),
                 ('first LLR -32768', '10' * (n // 2), 1, [-32768] + [1] * m, 7),
                 ('N - 1', '10' * (n // 2 - 1) + '1', 1, [1] * m, 1),
@@ -412,9 +452,9 @@ def faulty(file):
     ways = {'letter in the mask': lambda t: t[:1] + b'x' + t[2:], 'letter at the end': lambda t: t[:-1] + b'x\n', 'no line feed': lambda t: t[:-1],
             'two spaces': lambda t: t.replace(b' ', b'  ', 1), 'LLR beyond 32 bits': lambda t: t[:-1] + b'99999999999\n'}
     for variant, (mask, bad_length, digit, sweeps, bad_sweeps, llr, bad_llr) in enumerate([
-            (b'1011', b'101', b'2', b'1', b'0', b'1', b'32768'),
-            (b'10', b'1', b'9', b'8', b'9', b'-32767', b'-32768'),
-            (b'11101000', b'111010001', b'3', b'2', b'-1', b'0', b'-2147483648')]):
+            (b'1011', b'101', b'3', b'1', b'0', b'1', b'32768'),
+            (b'20', b'2', b'9', b'8', b'9', b'-32767', b'-32768'),
+            (b'11202000', b'112020001', b'4', b'2', b'-1', b'0', b'-2147483648')]):
         for set_of in range(32):
             faults = [f for k, f in enumerate([1, 2, 3, 4, 7]) if set_of >> k & 1]
             digits = bad_length if 1 in faults else mask
@@ -434,11 +474,11 @@ def faulty(file):
 
 def drawn_line(n, style):
     """Even signs and sizes from 0, with which most large lines have undecided bits, or the signs of a drawn word, a few of them wrong.
-    Sizes are small in large lines, which keeps the file small."""
+    Of four lines three have positions frozen to 1, by chance. Sizes are small in large lines, which keeps the file small."""
     size = random.choice([1, 3, 9, 200, LARGEST_LLR] if n <= 128 else [1, 3, 9])
-    least, wrong = [(0, .5), (1, .01), (0, .5), (1, .1)][style % 4]
-    mask, sweeps = drawn_mask(n, style), random.randint(1, MOST_SWEEPS)
-    word = transform([0 if frozen else random.getrandbits(1) for frozen in mask])
+    least, wrong, ones = [(0, .5, .5), (1, .01, .5), (0, .5, 0), (1, .1, .2)][style % 4]
+    mask, sweeps = with_ones(drawn_mask(n, style), ones), random.randint(1, MOST_SWEEPS)
+    word = transform(placed(mask, [random.getrandbits(1) for _ in mask]))
     return line_of(mask, sweeps, [random.randint(least, size) * (-1 if bit ^ (random.random() < wrong) else 1) for bit in word])
 
 
@@ -451,7 +491,7 @@ def end_of(line):
 def drawn(file):
     """Of four lines one has undecided bits, one has none and check 1, one has none and check 0, at the N where these are not too rare or
     too long, and one is as it comes."""
-    kinds, ends = {}, set()
+    kinds, kinds_of_ones, ends = {}, {}, set()
     for n in ALLOWED:
         for k in range(max(4, 16 - n // 16)):
             wanted = ['undecided', 'check 1', 'check 0' if 16 <= n <= 128 else None, None][k % 4]
@@ -459,10 +499,12 @@ def drawn(file):
             while wanted and end_of(line) != wanted:
                 line = drawn_line(n, k)
             file.case(f'N {n} drawn {k}', line, 'ok ')
-            kinds.setdefault(n, set()).update(cuts(read(line)[1]))
+            all_kinds, of_ones = cut_kinds(read(line)[1])
+            kinds.setdefault(n, set()).update(all_kinds)
+            kinds_of_ones.setdefault(n, set()).update(of_ones)
             ends.add(end_of(line))
         file.group(f'N {n} drawn')
-    assert all(len(kinds[n]) == 8 for n in ALLOWED if n >= 64), kinds
+    assert all(len(kinds[n]) == 8 and len(kinds_of_ones[n]) == 7 for n in ALLOWED if n >= 64), (kinds, kinds_of_ones)
     assert ends == {'undecided', 'check 0', 'check 1'}
 
 
@@ -481,7 +523,7 @@ def changed(line):
         lambda: b' '.join(fields[:k] + [number] + fields[k:]) + b'\n',
         lambda: b' '.join(fields[:k] + [number] + fields[k + 1:]) + b'\n',
         lambda: b' '.join(fields[:k] + [b'0' * random.randrange(4) + fields[k]] + fields[k + 1:]) + b'\n',
-        lambda: bytes([random.choice(b'0123')]) + line[1:]])()
+        lambda: bytes([random.choice(b'01239')]) + line[1:]])()
 
 
 def changed_line():
@@ -500,7 +542,7 @@ def changed_lines(file):
 
 def main():
     file = File()
-    for part in (frames, answers, undecided, line_ends, characters, numbers, masks, faulty, long_lines, large_lines, changed_lines, drawn):
+    for part in (frames, answers, undecided, known_ones, line_ends, characters, numbers, masks, faulty, long_lines, large_lines, changed_lines, drawn):
         part(file)
     if len(sys.argv) > 1:
         sys.stdout.buffer.write(file.inputs[int(sys.argv[1]) - 1])

@@ -2,32 +2,31 @@
 the hard word and what follows from it, the planner's cycles, and masks drawn in several ways."""
 import random
 
-CERTAIN = 'certain'      # the mark, which is larger than every number
+CERTAIN = float('inf')   # of a 0; -CERTAIN is certain of a 1
 UNDECIDED = 2            # in a hard word, and in the payload of one that has any
+MOST_MASK = 2            # the largest mask byte: 0 unfrozen, 1 frozen to 0, 2 frozen to 1
 ALLOWED = [2 ** n for n in range(1, 11)]
 MOST_SWEEPS = 8
 LARGEST_LLR = 32767
 
 
-# ---- SCAN by definition
+# ---- SCAN by definition: Python's infinities have the minimum and the sums that the requests give to certain values
 
 def box(a, b):
-    if a is CERTAIN:
-        return b
-    if b is CERTAIN:
-        return a
     size = min(abs(a), abs(b))
     return -size if (a < 0) != (b < 0) else size
 
 
 def plus(a, b):
-    return CERTAIN if a is CERTAIN or b is CERTAIN else a + b
+    total = a + b
+    assert total == total, 'certain of a 0 and certain of a 1 are to be added'
+    return total
 
 
 def scan(mask, llrs, sweeps):
     """The root's message after the last sweep."""
     n = len(mask)
-    message = {n + i: [CERTAIN if frozen else 0] for i, frozen in enumerate(mask)}
+    message = {n + i: [(0, CERTAIN, -CERTAIN)[byte]] for i, byte in enumerate(mask)}
     for p in range(1, n):
         message[p] = [0] * (n >> p.bit_length() - 1)
 
@@ -57,11 +56,17 @@ def transform(u):
     return [a ^ b for a, b in zip(first, second)] + second
 
 
+def placed(mask, bits):
+    """u: the bits one after another at the unfrozen positions, the known bits elsewhere."""
+    rest = iter(bits)
+    return [int(byte == 2) if byte else next(rest) for byte in mask]
+
+
 def hard_bit(total):
     """The bit of LLR plus soft value."""
-    if total is CERTAIN or total > 0:
-        return 0
-    return 1 if total < 0 else UNDECIDED
+    if total == 0:
+        return UNDECIDED
+    return int(total < 0)
 
 
 def decoded(mask, sweeps, llrs):
@@ -69,10 +74,10 @@ def decoded(mask, sweeps, llrs):
     soft = scan(mask, llrs, sweeps)
     hard = [hard_bit(plus(llr, x)) for llr, x in zip(llrs, soft)]
     if UNDECIDED in hard:
-        return soft, hard, [UNDECIDED for frozen in mask if not frozen], 0, hard.count(UNDECIDED)
+        return soft, hard, [UNDECIDED for byte in mask if not byte], 0, hard.count(UNDECIDED)
     u = transform(hard)
-    payload = [bit for bit, frozen in zip(u, mask) if not frozen]
-    check = int(not any(bit for bit, frozen in zip(u, mask) if frozen))
+    payload = [bit for bit, byte in zip(u, mask) if not byte]
+    check = int(all(bit == (byte == 2) for bit, byte in zip(u, mask) if byte))
     return soft, hard, payload, check, 0
 
 
@@ -90,15 +95,21 @@ def table(m):
 
 
 def kind(part):
-    """The kind of a node by its part of the mask: the first that fits; None if it is of no kind."""
-    mask = digits_of(part)
+    """The kind of a node by its part of the mask, where 1 and 2 count alike: the first that fits; None if it is of no kind."""
+    mask = digits_of(int(byte > 0) for byte in part)
     return next((name for name, least, pattern in table(len(mask)) if len(mask) >= least and mask == pattern), None)
 
 
 def cuts(part):
-    """The kinds of the nodes that the planner cuts."""
+    """The parts of the mask whose nodes the planner cuts."""
     h = len(part) // 2
-    return [kind(part)] if kind(part) else cuts(part[:h]) + cuts(part[h:])
+    return [part] if kind(part) else cuts(part[:h]) + cuts(part[h:])
+
+
+def cut_kinds(mask):
+    """The kinds of the nodes that the planner cuts, and of those among them that have a position frozen to 1."""
+    parts = cuts(mask)
+    return {kind(part) for part in parts}, {kind(part) for part in parts if 2 in part}
 
 
 def cycles(part):
@@ -122,6 +133,11 @@ def drawn_mask(n, style):
     frozen = random.randint(0, n) if n <= 8 else random.randint(n // 4, n * 3 // 4)
     limit = (sorted(measure) + [max(measure) + 1])[frozen]
     return [int(x < limit) for x in measure]
+
+
+def with_ones(mask, chance):
+    """The mask with some of its frozen positions, by chance, frozen to 1."""
+    return [2 if byte and random.random() < chance else byte for byte in mask]
 
 
 def some_of_each(numbers, count, draw, number_of):

@@ -44,12 +44,13 @@ const LENGTHS: usize = 10;
 
 // ---- a case by its group, its stage and its index
 
-// Each style of mask and plan in turn, with drawn sweeps.
+// Each style of mask and plan in turn, with drawn ones and sweeps.
 fn drawn_case(stage: usize, i: usize, llrs: usize, seed: u32) -> Case {
     Case {
         stage,
         mask: i % 18,
         detail: (seed / 16 % 11) as usize,
+        ones: (seed / 256 % 4) as usize,
         plan: i / 18 % 4,
         llrs,
         sweeps: 1 + (seed % 8) as usize,
@@ -57,25 +58,27 @@ fn drawn_case(stage: usize, i: usize, llrs: usize, seed: u32) -> Case {
     }
 }
 
-// Every mask of N to 8, as a number, with each style of plan and LLRs.
+// Every mask of N to 8, as a number, with each style of plan, and drawn LLRs and sweeps.
 fn mask_case(stage: usize, i: usize, seed: u32) -> Case {
     Case {
         stage,
         mask: 18,
-        detail: i % 256,
-        plan: i / 256 % 4,
-        llrs: i / 1024 % 8,
+        detail: i % 6561,
+        ones: 0,
+        plan: i / 6561 % 4,
+        llrs: (seed / 16 % 8) as usize,
         sweeps: 1 + (seed % 8) as usize,
         seed,
     }
 }
 
-// A node of each kind and each size, with each style of plan, and drawn LLRs and sweeps.
+// A node of each kind and each size, with each style of plan and of ones, and drawn LLRs and sweeps.
 fn kind_case(stage: usize, i: usize, seed: u32) -> Case {
     Case {
         stage,
         mask: 10 + i % 8,
         detail: i / 8 % 11,
+        ones: i / 352 % 4,
         plan: i / 88 % 4,
         llrs: (seed / 16 % 8) as usize,
         sweeps: 1 + (seed % 8) as usize,
@@ -159,8 +162,8 @@ fn found(group: usize, stage: usize, i: usize) -> Found {
 
 fn print_case(c: Case) {
     print_values(
-        b", mask |, detail |, plan |, LLRs |, sweeps ",
-        [c.mask, c.detail, c.plan, c.llrs, c.sweeps, 0, 0, 0],
+        b", mask |, detail |, ones |, plan |, LLRs |, sweeps ",
+        [c.mask, c.detail, c.ones, c.plan, c.llrs, c.sweeps, 0, 0],
     );
 }
 
@@ -269,10 +272,10 @@ fn report_drawn() {
 }
 
 fn main() {
-    report_group(FRAMES, 1, 8);
-    report_group(EVERY_MASK, 3, 8192);
+    report_group(FRAMES, 1, 18);
+    report_group(EVERY_MASK, 3, 26244);
     report_drawn();
-    report_group(KINDS, 10, 704);
+    report_group(KINDS, 10, 1408);
     report_group(SIGNS, 10, 512);
     report_group(CHANGED_PLANS, 10, 512);
     report_group(TWO_FAULTS, 10, 1452);

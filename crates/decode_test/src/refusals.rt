@@ -78,7 +78,16 @@ fn wrong_length(n: usize, variant: usize) -> usize
     pick(variant, n - 1, n + 1, 0, n + n / 2)
 }
 
-fn wrong_byte(variant: usize) -> u8 {
+fn wrong_mask_byte(variant: usize) -> u8 {
+    match variant % 4 {
+        0 => 3,
+        1 => 4,
+        2 => 128,
+        _ => 255,
+    }
+}
+
+fn wrong_plan_byte(variant: usize) -> u8 {
     match variant % 4 {
         0 => 2,
         1 => 3,
@@ -112,7 +121,7 @@ fn spoil_form(plan: Bytes, n: usize, variant: usize) -> Bytes
     }
     if variant < 8 {
         let p = pick(variant, 1, n, 2 * n - 1, n / 2);
-        return with_byte(plan, p, wrong_byte(variant));
+        return with_byte(plan, p, wrong_plan_byte(variant));
     }
     with_byte(plan, 0, 1)
 }
@@ -157,6 +166,7 @@ fn faulty_mask(stage: usize, faults: usize, variant: usize, seed: u32) -> Bytes 
         stage,
         mask: 2,
         detail: 0,
+        ones: 1,
         plan: 0,
         llrs: 0,
         sweeps: 1,
@@ -166,7 +176,7 @@ fn faulty_mask(stage: usize, faults: usize, variant: usize, seed: u32) -> Bytes 
     let first = with_byte(draw_mask(c), 0, bit_if(!no_kind));
     let mask = with_byte(first, 1, bit_if(no_kind));
     if has(faults, 1) {
-        with_byte(mask, spot(variant, n), wrong_byte(variant))
+        with_byte(mask, spot(variant, n), wrong_mask_byte(variant))
     } else {
         mask
     }

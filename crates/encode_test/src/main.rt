@@ -14,11 +14,12 @@ use test_tools::report::shown;
 fn right(group: usize, i: usize) -> bool {
     let seed = case_seed(group, 0, i);
     match group {
-        0 => cases::frame_case(),
+        0 => cases::frame_case(i),
         1 => cases::word_case(length_of(1 + i % 10), i / 10, seed),
         2 => cases::transform_case(length_of(1 + i % 10), seed),
         3 => cases::length_case(false, i, seed),
         4 => cases::length_case(true, i, seed),
+        5 => cases::small_case(1 + i % 2, i / 2, i / 162, seed),
         _ => cases::refusal_case(length_of(2 + i % 9), i / 9, seed),
     }
 }
@@ -31,7 +32,7 @@ fn report_group(group: usize, count: usize) {
         i += 1;
     }
     report(
-        b"frame: |encode: |transform: |transform lengths: |mask lengths: |refusals: ",
+        b"frames: |encode: |transform: |transform lengths: |mask lengths: |every mask and payload to N 4: |refusals: ",
         group,
         sum,
         count,
@@ -39,10 +40,11 @@ fn report_group(group: usize, count: usize) {
 }
 
 fn main() {
-    report_group(0, 1);
+    report_group(0, 2);
     report_group(1, 2000);
     report_group(2, 1000);
     report_group(3, 2056);
     report_group(4, 2056);
-    report_group(5, 288);
+    report_group(5, 2592);
+    report_group(6, 288);
 }

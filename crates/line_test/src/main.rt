@@ -41,7 +41,7 @@ fn run(file: &[u8]) {
 }
 
 fn main() {
-    let mut file = [0u8; 131072];
+    let mut file = [0u8; 262144];
     let n = io::read_full(0, &mut file);
     run(bytes(&file, n));
 }

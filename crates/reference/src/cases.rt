@@ -4,7 +4,7 @@ use crate::nodes::pattern;
 use crate::values::short;
 use crate::values::with_sign;
 use test_tools::buffers::Bytes;
-use test_tools::numbers::bit_if;
+use test_tools::numbers::least;
 use test_tools::numbers::length_of;
 use test_tools::numbers::next;
 ghost use Prim.Native.Nat.{_≤_};
@@ -13,9 +13,12 @@ ghost use Prim.Native.Nat.{_≤_};
 pub struct Case {
     // N is 2 ^ stage.
     pub stage: usize,
-    // Style of the mask, 0 to 18, and its argument: the stage of a structured node (10 to 17), or the mask as a number (18).
+    // Style of the mask, 0 to 18, and its argument: the stage of a structured node (10 to 17), or the mask as a number (18), whose lowest
+    // digit in base three is the first position.
     pub mask: usize,
     pub detail: usize,
+    // Style of what frozen positions are frozen to, 0 to 3; a mask as a number says it itself.
+    pub ones: usize,
     // Style of the plan, 0 to 3 (see nodes.rt).
     pub plan: usize,
     // Style of the LLRs, 0 to 9.
@@ -90,6 +93,7 @@ fn node_size(kind: u8, detail: usize, stage: usize) -> usize {
     length_of(detail)
 }
 
+// Whether a position of a mask of styles 0 to 17 is frozen.
 fn frozen(c: Case, i: usize, x: u32) -> bool
     requires { ⌜ i ≤ 1024 ⌝ }
 {
@@ -101,30 +105,69 @@ fn frozen(c: Case, i: usize, x: u32) -> bool
     if c.mask < 10 {
         return ruled_frozen(c.mask, c.stage, i, threshold);
     }
-    if c.mask < 18 {
-        let kind = kind_of_style(c.mask);
-        return node_frozen(
-            kind,
-            node_size(kind, c.detail, c.stage),
-            i,
-            threshold % n,
-            x,
-        );
+    let kind = kind_of_style(c.mask);
+    node_frozen(
+        kind,
+        node_size(kind, c.detail, c.stage),
+        i,
+        threshold % n,
+        x,
+    )
+}
+
+// The byte of a frozen position. Styles: frozen to 0, to 1 with chance 1/2 and 1/8, and to 1.
+fn frozen_byte(ones: usize, x: u32) -> u8 {
+    let y = x / 65536;
+    let one = match ones {
+        0 => false,
+        1 => y % 2 == 0,
+        2 => y % 8 == 0,
+        _ => true,
+    };
+    if one { 2 } else { 1 }
+}
+
+// The byte of position i, of a number's mask from the number with the digits before it cut off.
+fn mask_byte(c: Case, i: usize, number: usize, x: u32) -> u8
+    requires { ⌜ i ≤ 1024 ⌝ }
+{
+    if c.mask == 18 {
+        return (number % 3) as u8;
     }
-    (c.detail >> (i % 16)) % 2 == 1
+    if frozen(c, i, x) {
+        frozen_byte(c.ones, x)
+    } else {
+        0
+    }
 }
 
 pub fn draw_mask(c: Case) -> Bytes {
     let n = length_of(c.stage);
     let mut mask = [0u8; 4112];
+    let mut number = c.detail;
     let mut x = c.seed;
     let mut i = 0;
     while i < n {
         x = next(x);
-        mask[i] = bit_if(frozen(c, i, x));
+        mask[i] = mask_byte(c, i, number, x);
+        number /= 3;
         i += 1;
     }
     mask
+}
+
+// The number of a mask of n positions, to 8, whose bytes are decimal digits, the first position's first.
+pub fn mask_number(n: usize, digits: usize) -> usize {
+    let end = least(n, 8);
+    let mut number = 0;
+    let mut rest = digits;
+    let mut i = 0;
+    while i < end {
+        number = number % 2187 * 3 + rest % 10 % 3;
+        rest /= 10;
+        i += 1;
+    }
+    number
 }
 
 // ---- LLRs

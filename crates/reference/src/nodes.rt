@@ -37,7 +37,7 @@ pub fn least_stage(kind: u8) -> usize {
     }
 }
 
-// Whether the mask's positions from first on are those of a node of the kind.
+// Whether the mask's positions from first on are those of a node of the kind. What a position is frozen to does not matter.
 fn fits(mask: &[u8; 4112], first: usize, size: usize, kind: u8) -> bool
     requires { ⌜ (first ≤ 1024) × (size ≤ 1024) ⌝ }
 {
@@ -46,7 +46,7 @@ fn fits(mask: &[u8; 4112], first: usize, size: usize, kind: u8) -> bool
     }
     let mut k = 0;
     while k < size {
-        if mask[first + k] != bit_if(pattern(kind, size, k)) {
+        if (mask[first + k] != 0) != pattern(kind, size, k) {
             return false;
         }
         k += 1;

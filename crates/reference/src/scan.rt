@@ -8,6 +8,7 @@ use crate::values::box_of;
 use crate::values::hard_bit;
 use crate::values::soft_word;
 use crate::values::sum;
+use crate::values::with_sign;
 use crate::words::read_word;
 use test_tools::buffers::Bytes;
 use test_tools::numbers::least;
@@ -126,8 +127,13 @@ fn sweep(table: &mut [u64; 22528], stage: usize, sweeps: usize)
 
 // ---- a decode
 
-fn leaf_message(frozen: bool) -> u64 {
-    if frozen { CERTAIN } else { 0 }
+// By the leaf's mask byte: 0 unfrozen, 1 frozen to 0, 2 frozen to 1.
+fn leaf_message(byte: u8) -> u64 {
+    if byte == 0 {
+        0
+    } else {
+        with_sign(byte == 2, CERTAIN)
+    }
 }
 
 // The LLRs to the root's row, and the leaves' messages. All other places are zero.
@@ -140,7 +146,7 @@ fn start(table: &mut [u64; 22528], mask: Bytes, values: [u64; 1024], stage: usiz
         let p = place(stage, i);
         table[p] = values[i];
         let q = place(MESSAGES, i);
-        table[q] = leaf_message(mask[i] == 1);
+        table[q] = leaf_message(mask[i]);
         i += 1;
     }
 }

@@ -35,7 +35,12 @@ pub fn product(bits: Bytes, n: usize, over: Bytes) -> Bytes
     word
 }
 
-// The payload's bits one after another at the unfrozen places of the first n, and zeros elsewhere.
+// The bit that a frozen place holds, by its mask byte.
+fn known_bit(byte: u8) -> u8 {
+    bit_if(byte == 2)
+}
+
+// The payload's bits one after another at the unfrozen places of the first n, and the known bits elsewhere.
 pub fn spread(mask: Bytes, payload: Bytes, n: usize) -> Bytes
     requires { ⌜ n ≤ 1024 ⌝ }
 {
@@ -44,7 +49,7 @@ pub fn spread(mask: Bytes, payload: Bytes, n: usize) -> Bytes
     let mut j = 0;
     while j < n {
         let unfrozen = mask[j] == 0;
-        bits[j] = choose_byte(unfrozen, payload[k], 0);
+        bits[j] = choose_byte(unfrozen, payload[k], known_bit(mask[j]));
         k += one_if(unfrozen);
         j += 1;
     }
@@ -81,7 +86,8 @@ fn undecided_of(hard: Bytes, n: usize) -> usize
 }
 
 // The outputs with the payload and the frozen check that the first n hard bits give, and how many of these are undecided. If any is, then
-// every bit counts as undecided, and the check is 0. Otherwise all frozen bits are zero exactly if the payload, spread again, gives all bits.
+// every bit counts as undecided, and the check is 0. Otherwise the frozen bits are the known ones exactly if the payload, spread again, gives
+// all bits.
 pub fn read_word(mask: Bytes, n: usize, out: Outputs) -> Outputs
     requires { ⌜ n ≤ 1024 ⌝ }
 {
@@ -95,12 +101,12 @@ pub fn read_word(mask: Bytes, n: usize, out: Outputs) -> Outputs
         [UNDECIDED; 4112]
     };
     let payload = gather(mask, bits, n, over);
-    let clear = same_front(bits, spread(mask, payload, n), n);
+    let as_known = same_front(bits, spread(mask, payload, n), n);
     Outputs {
         soft,
         hard,
         payload,
-        check: bit_if(both(undecided == 0, clear)),
+        check: bit_if(both(undecided == 0, as_known)),
         undecided,
     }
 }

@@ -1,7 +1,6 @@
 // Drawn captures, whose text is to be that of their frames decoded one by one.
 use crate::cases::right_by_frames;
 use test_tools::buffers::bytes;
-use test_tools::numbers::bit_if;
 use test_tools::numbers::case_seed;
 use test_tools::numbers::length_of;
 use test_tools::numbers::next;
@@ -30,6 +29,19 @@ fn frozen(style: usize, n: usize, k: usize, threshold: usize, x: u32) -> bool
     }
 }
 
+// The byte of a position. Styles 4 to 7 freeze the positions of styles 0 to 3, to 1 with chance 1/2.
+fn mask_byte(style: usize, n: usize, k: usize, threshold: usize, x: u32) -> u8
+    requires { ⌜ (1 ≤ n) × (n ≤ 1024) × (k ≤ 1024) ⌝ }
+{
+    if !frozen(style % 4, n, k, threshold, x) {
+        return 0;
+    }
+    if style < 4 {
+        return 1;
+    }
+    if x / 65536 % 2 == 0 { 1 } else { 2 }
+}
+
 fn put_mask(out: &mut [u8], from: usize, stage: usize, style: usize, seed: u32) -> usize {
     let n = length_of(stage);
     let threshold = (seed / 16) as usize;
@@ -38,7 +50,7 @@ fn put_mask(out: &mut [u8], from: usize, stage: usize, style: usize, seed: u32) 
     let mut k = 0;
     while k < n {
         x = next(x);
-        at = put(out, at, bit_if(frozen(style, n, k, threshold, x)));
+        at = put(out, at, mask_byte(style, n, k, threshold, x));
         k += 1;
     }
     at
@@ -126,7 +138,7 @@ fn put_capture(out: &mut [u8], stage: usize, i: usize) -> usize {
     let seed = case_seed(0, stage, i);
     let count = seed / 256 % 17;
     let mask_at = put_frames(out, stage, count, seed);
-    let e = put_mask(out, mask_at, stage, i % 4, seed);
+    let e = put_mask(out, mask_at, stage, i % 8, seed);
     put_trailer(out, e, mask_at, count)
 }
 

@@ -7,35 +7,40 @@ ghost use Prim.Native.Nat.{_≤_};
 // Twice 2056 bytes: a plan for a mask of any length that is tried.
 pub type Bytes = [u8; 4112];
 
-// A drawn byte, or a drawn bit.
-fn drawn(bit: bool, x: u32) -> u8 {
-    if bit {
-        (x / 256 % 2) as u8
-    } else {
-        (x / 256 % 256) as u8
-    }
+// A drawn byte below a limit, which is at most 256.
+fn drawn(limit: u32, x: u32) -> u8
+    requires { ⌜ 1 ≤ limit ⌝ }
+{
+    (x / 256 % limit % 256) as u8
 }
 
-// The first n bytes drawn, or drawn from 0 and 1; the others zero.
-fn draw(bits: bool, n: usize, seed: u32) -> Bytes {
+// The first n bytes drawn below a limit; the others zero.
+fn draw(limit: u32, n: usize, seed: u32) -> Bytes
+    requires { ⌜ 1 ≤ limit ⌝ }
+{
     let end = least(n, 4112);
     let mut s = [0u8; 4112];
     let mut x = seed;
     let mut i = 0;
     while i < end {
         x = next(x);
-        s[i] = drawn(bits, x);
+        s[i] = drawn(limit, x);
         i += 1;
     }
     s
 }
 
 pub fn draw_bytes(n: usize, seed: u32) -> Bytes {
-    draw(false, n, seed)
+    draw(256, n, seed)
 }
 
 pub fn draw_bits(n: usize, seed: u32) -> Bytes {
-    draw(true, n, seed)
+    draw(2, n, seed)
+}
+
+// Bytes of a mask: unfrozen, frozen to 0 and frozen to 1.
+pub fn draw_mask_bytes(n: usize, seed: u32) -> Bytes {
+    draw(3, n, seed)
 }
 
 pub fn same_bytes(a: Bytes, b: Bytes) -> bool {

@@ -5,10 +5,10 @@ use Rattle.reference.proofs.cases.draw_mask.Statement.{statement}
 use Rattle.reference.proofs.cases.draw_mask.Tie as tie
 
 abbrev Inv-loop : tie.InvT-loop
-Inv-loop c n mask₀ x₀ i₀ mask x i = (i ≤ n) × (n ≤ 1024)
+Inv-loop c n mask₀ number₀ x₀ i₀ mask number x i = (i ≤ n) × (n ≤ 1024)
 
 abbrev μ-loop : tie.MeasureT-loop
-μ-loop c n mask₀ x₀ i₀ mask x i = n - i
+μ-loop c n mask₀ number₀ x₀ i₀ mask number x i = n - i
 
 length-of-requires : tie.Need-length-of-requires Inv-loop μ-loop
 length-of-requires c κs = search needs
@@ -19,11 +19,8 @@ loop-holds c = search needs
 next-requires : tie.Need-next-requires Inv-loop μ-loop
 next-requires c κs = search needs
 
-frozen-requires : tie.Need-frozen-requires Inv-loop μ-loop
-frozen-requires c κs = search needs
-
-bit-if-requires : tie.Need-bit-if-requires Inv-loop μ-loop
-bit-if-requires c κs = search needs
+mask-byte-requires : tie.Need-mask-byte-requires Inv-loop μ-loop
+mask-byte-requires c κs = search needs
 
 array-write-mask : tie.Need-array-write-mask Inv-loop μ-loop
 array-write-mask c = search needs
@@ -49,8 +46,7 @@ draw-mask-spec =
     length-of-requires
     loop-holds
     next-requires
-    frozen-requires
-    bit-if-requires
+    mask-byte-requires
     array-write-mask
     add-i
     loop-less

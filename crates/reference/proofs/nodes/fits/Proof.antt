@@ -31,9 +31,6 @@ element-copy-out-if2 c = search needs
 pattern-requires : tie.Need-pattern-requires Inv-loop μ-loop
 pattern-requires c κs = search needs
 
-bit-if-requires : tie.Need-bit-if-requires Inv-loop μ-loop
-bit-if-requires c κs = search needs
-
 returns-2 : tie.Need-returns-2 Inv-loop μ-loop
 returns-2 c = search needs
 
@@ -62,7 +59,6 @@ fits-spec =
     add-if2
     element-copy-out-if2
     pattern-requires
-    bit-if-requires
     returns-2
     add-k
     loop-less

@@ -7,11 +7,8 @@ use Rattle.reference.proofs.Signs.{minus-fits}
 use Rattle.reference.proofs.values.soft_word.Statement.{statement}
 use Rattle.reference.proofs.values.soft_word.Tie as tie
 
-returns : tie.Need-returns
-returns c = search needs
-
-size-requires : tie.Need-size-requires
-size-requires c κs = search needs
+word-size-requires : tie.Need-word-size-requires
+word-size-requires c κs = search needs
 
 cast-z : tie.Need-cast-z
 cast-z c = search needs
@@ -20,15 +17,14 @@ negative-requires : tie.Need-negative-requires
 negative-requires c κs = search needs
 
 sub-result : tie.Need-sub-result
-sub-result c = minus-fits w32 (c .before .before .size .result % 2147483648) (omega arith)
+sub-result c = minus-fits w32 (c .before .before .word-size .result % 2147483648) (omega arith)
+
+returns : tie.Need-returns
+returns c = search needs
 
 returns-2 : tie.Need-returns-2
 returns-2 c = search needs
 
-returns-3 : tie.Need-returns-3
-returns-3 c = search needs
-
 pub soft-word-spec : {M : Type 1} → statement M
 soft-word-spec =
-    tie.close
-    (tie.spec returns size-requires cast-z negative-requires sub-result returns-2 returns-3)
+    tie.close (tie.spec word-size-requires cast-z negative-requires sub-result returns returns-2)

@@ -19,6 +19,12 @@ array-read-unfrozen c = search needs
 array-read-choose-byte : tie.Need-array-read-choose-byte Inv-loop μ-loop
 array-read-choose-byte c = search needs
 
+array-read-known-bit : tie.Need-array-read-known-bit Inv-loop μ-loop
+array-read-known-bit c = search needs
+
+known-bit-requires : tie.Need-known-bit-requires Inv-loop μ-loop
+known-bit-requires c κs = search needs
+
 choose-byte-requires : tie.Need-choose-byte-requires Inv-loop μ-loop
 choose-byte-requires c κs = search needs
 
@@ -52,6 +58,8 @@ spread-spec =
     loop-holds
     array-read-unfrozen
     array-read-choose-byte
+    array-read-known-bit
+    known-bit-requires
     choose-byte-requires
     array-write-bits
     one-if-requires

@@ -24,11 +24,8 @@ loop-holds c = search needs
 next-requires : tie.Need-next-requires Inv-loop μ-loop
 next-requires c κs = search needs
 
-frozen-requires : tie.Need-frozen-requires Inv-loop μ-loop
-frozen-requires c κs = search needs
-
-bit-if-requires : tie.Need-bit-if-requires Inv-loop μ-loop
-bit-if-requires c κs = search needs
+mask-byte-requires : tie.Need-mask-byte-requires Inv-loop μ-loop
+mask-byte-requires c κs = search needs
 
 put-requires : tie.Need-put-requires Inv-loop μ-loop
 put-requires c κs = search needs
@@ -58,8 +55,7 @@ put-mask-spec =
     cast-threshold
     loop-holds
     next-requires
-    frozen-requires
-    bit-if-requires
+    mask-byte-requires
     put-requires
     add-k
     loop-less

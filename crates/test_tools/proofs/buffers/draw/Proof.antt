@@ -5,10 +5,10 @@ use Rattle.test_tools.proofs.buffers.draw.Statement.{statement}
 use Rattle.test_tools.proofs.buffers.draw.Tie as tie
 
 abbrev Inv-loop : tie.InvT-loop
-Inv-loop bits n seed end s₀ x₀ i₀ s x i = i ≤ 4112
+Inv-loop limit n seed end s₀ x₀ i₀ s x i = i ≤ 4112
 
 abbrev μ-loop : tie.MeasureT-loop
-μ-loop bits n seed end s₀ x₀ i₀ s x i = 4112 - i
+μ-loop limit n seed end s₀ x₀ i₀ s x i = 4112 - i
 
 least-requires : tie.Need-least-requires Inv-loop μ-loop
 least-requires c κs = search needs
