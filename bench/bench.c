@@ -42,10 +42,14 @@ typedef enum { DECODE, ENCODE, PLAN, SAMPLES, MARKED, MASK, DISTANCE, TRANSFORM,
 typedef enum { PLANNERS, PAIRS, LEAVES, PLANS } plan_choice;
 static const char *const plan_names[PLANS] = {"planner's", "pairs", "leaf-only"};
 
+// What frozen positions are frozen to: all to 0, or a drawn half of them to 1.
+typedef enum { ZEROS, ONES } frozen_choice;
+
 typedef struct {
     routine what;
     size_t n, k, sweeps;
     plan_choice plan;
+    frozen_choice frozen;
 } test_case;
 
 // The channel of a case's frames, and the scale of their LLRs, by which the front end's noise variance is divided.
@@ -88,6 +92,12 @@ static void cut_pairs(size_t n) {
     }
 }
 
+static void freeze_to_one(size_t n) {
+    struct random r = random_case(2, 0);
+    for (size_t i = 0; i < n; i++)
+        if (mask[i] && random_chance(&r, 0.5)) mask[i] = RUZNAVO_FROZEN_ONE;
+}
+
 static void make_plan(const test_case *c) {
     uint32_t counts[KINDS];
     if (plain_plan(mask, c->n, plan, 2 * c->n, counts) & 255) fail(c, "no plan");
@@ -109,6 +119,7 @@ static void prepare(const test_case *c, channel way) {
     struct random r = random_case(1, 0);
     float noise = (float)noise_variance(c->n, c->k, way.ebn0_db);
     make_mask(mask, c->n, c->k);
+    if (c->frozen == ONES) freeze_to_one(c->n);
     make_plan(c);
     for (size_t i = 0; i < c->n; i++) marks[i] = mark_at(c, i);
     variance = noise / way.scale;
@@ -242,7 +253,7 @@ static void decode_table(void) {
     if (!counting) puts("   proved/plain  proved/SSE2");
     for (int i = 0; i < 2 * PLANS * CODES; i++) {
         const size_t *code = codes[i / (2 * PLANS)];
-        test_case c = {DECODE, code[0], code[1], i % 2 ? 4 : 1, (plan_choice)(i / 2 % PLANS)};
+        test_case c = {DECODE, code[0], code[1], i % 2 ? 4 : 1, (plan_choice)(i / 2 % PLANS), ZEROS};
         double mean[LIBRARIES];
         if (!counting) printf("(%4zu,%3zu) %-10s %4zu", c.n, c.k, plan_names[c.plan], c.sweeps);
         run_case(&c, mean);
@@ -251,12 +262,36 @@ static void decode_table(void) {
     }
 }
 
+// Two rows: of a case with all frozen positions frozen to 0, and of the same with a half of them frozen to 1.
+static void ones_rows(const char *label, test_case c) {
+    double zeros[LIBRARIES], ones[LIBRARIES];
+    if (!counting) printf("(%4zu,%3zu) %-15s", c.n, c.k, label);
+    run_case(&c, zeros);
+    if (!counting) printf("\n%-26s", "    half of them to 1");
+    c.frozen = ONES;
+    run_case(&c, ones);
+    if (!counting)
+        printf("   %12.2f %12.2f\n", ones[PROVED] / zeros[PROVED], ones[PLAIN] / zeros[PLAIN]), fflush(stdout);
+}
+
+static void ones_table(void) {
+    heading("Positions frozen to 0, and half of them to 1: decoder and encoder", "code       plan, sweeps");
+    if (!counting) puts("   to 1 / to 0: proved, plain");
+    for (int i = 0; i < CODES; i++) {
+        size_t n = codes[i][0], k = codes[i][1];
+        ones_rows("planner's, 1", (test_case){DECODE, n, k, 1, PLANNERS, ZEROS});
+        ones_rows("planner's, 4", (test_case){DECODE, n, k, 4, PLANNERS, ZEROS});
+        ones_rows("leaf-only, 1", (test_case){DECODE, n, k, 1, LEAVES, ZEROS});
+        ones_rows("encoder", (test_case){ENCODE, n, k, 0, PLANNERS, ZEROS});
+    }
+}
+
 static void other_table(void) {
     static const char *const names[] = {"", "encoder", "planner", "front end", "with marks", "mask", "distance"};
     heading("Encoder, planner, front end, mask by row weight and for distances from 1 to 32", "routine    code");
     if (!counting) puts("   proved/plain");
     for (int i = 0; i < 6 * CODES; i++) {
-        test_case c = {(routine)(ENCODE + i / CODES), codes[i % CODES][0], codes[i % CODES][1], 0, PLANNERS};
+        test_case c = {(routine)(ENCODE + i / CODES), codes[i % CODES][0], codes[i % CODES][1], 0, PLANNERS, ZEROS};
         double mean[LIBRARIES];
         if (!counting) printf("%-10s (%4zu,%3zu)%5s", names[c.what], c.n, c.k, "");
         run_case(&c, mean);
@@ -269,7 +304,7 @@ static void chain_table(void) {
     heading("Chain: front end and decoder, planner's plan", "code             sweeps");
     if (!counting) puts("   proved/plain   frames a second   Mbit of payload a second");
     for (int i = 0; i < 2 * CODES; i++) {
-        test_case c = {CHAIN, codes[i / 2][0], codes[i / 2][1], i % 2 ? 4 : 1, PLANNERS};
+        test_case c = {CHAIN, codes[i / 2][0], codes[i / 2][1], i % 2 ? 4 : 1, PLANNERS, ZEROS};
         double mean[LIBRARIES];
         if (!counting) printf("(%4zu,%3zu) %-10s %4zu", c.n, c.k, "", c.sweeps);
         run_case(&c, mean);
@@ -286,7 +321,7 @@ static void word_table(void) {
     if (!counting) puts("   proved/plain");
     for (int i = 0; i < 2 * MAX_STAGE; i++) {
         size_t n = (size_t)2 << i % MAX_STAGE;
-        test_case c = {i < MAX_STAGE ? TRANSFORM : ENCODE, n, n / 2, 0, PLANNERS};
+        test_case c = {i < MAX_STAGE ? TRANSFORM : ENCODE, n, n / 2, 0, PLANNERS, ZEROS};
         double mean[LIBRARIES];
         if (!counting) printf("%-10s %4zu%11s", names[i / MAX_STAGE], n, "");
         run_case(&c, mean);
@@ -299,7 +334,7 @@ static void growth_table(void) {
     if (!counting) puts("   ns / (N log2 N): proved, plain, SSE2");
     for (int stage = 1; stage <= MAX_STAGE; stage++) {
         size_t n = (size_t)1 << stage;
-        test_case c = {DECODE, n, n / 2, 1, PLANNERS};
+        test_case c = {DECODE, n, n / 2, 1, PLANNERS, ZEROS};
         double mean[LIBRARIES], steps = (double)n * stage;
         if (!counting) printf("%-26zu", n);
         run_case(&c, mean);
@@ -316,7 +351,7 @@ static void replay_table(void) {
          "                                         ns a frame\n"
          "N                sweeps   frames    replay   decodes   replay/decodes");
     for (int i = 0; i < 4; i++) {
-        test_case c = {DECODE, i < 2 ? 1024 : 2, i < 2 ? 512 : 1, i % 2 ? 4 : 1, PLANNERS};
+        test_case c = {DECODE, i < 2 ? 1024 : 2, i < 2 ? 512 : 1, i % 2 ? 4 : 1, PLANNERS, ZEROS};
         prepare(&c, noisy);
         compare_replay(mask, c.n, (unsigned)c.sweeps, llrs[0], MAX_N, FRAMES);
         prepare(&c, clear);
@@ -333,6 +368,7 @@ int main(int count, char **words) {
         if (!refuses_rightly(libraries[which].decode))
             return fprintf(stderr, "bench: %s misses a test\n", libraries[which].name), 1;
     decode_table();
+    ones_table();
     chain_table();
     other_table();
     word_table();

@@ -1,5 +1,6 @@
 // Encoder, transform, planner, front end, masks and decoder in plain C, as one would write them without intrinsics.
 #include "baseline.h"
+#include "flips.h"
 #include "kinds.h"
 #include "slips.h"
 
@@ -53,12 +54,17 @@ static uint32_t edge_cycles(int left, int right) { return 2 + (left > RATE_1 ? 2
 uint64_t plain_encode(const uint8_t *mask, size_t n, const uint8_t *payload, size_t payload_length, uint8_t *word,
                       size_t word_length) {
     if (!exponent_of(n)) return 1;
-    if (above_one(mask, n)) return 2;
-    if (payload_length != n - count_ones(mask, n)) return 3;
+    uint8_t largest = largest_byte(mask, n);
+    if (largest > 2) return 2;
+    flips f;
+    const uint8_t *zeros = frozen_to_zero(mask, n, largest, &f);
+    if (payload_length != n - count_ones(zeros, n)) return 3;
     if (above_one(payload, payload_length)) return 10;
     if (word_length < n) return 11;
     size_t k = 0;
-    for (size_t i = 0; i < n; i++) word[i] = mask[i] ? 0 : payload[k++];
+    for (size_t i = 0; i < n; i++) word[i] = zeros[i] ? 0 : payload[k++];
+    if (f.any)
+        for (size_t i = 0; i < n; i++) word[i] |= f.word[i];
     transform(word, n);
     return 0;
 }
@@ -145,12 +151,14 @@ uint64_t plain_mask_for_distance(size_t n, size_t k, size_t d, uint8_t *mask, si
 
 uint64_t plain_plan(const uint8_t *mask, size_t n, uint8_t *plan, size_t plan_length, uint32_t *counts) {
     if (!exponent_of(n)) return 1;
-    if (above_one(mask, n)) return 2;
+    uint8_t largest = largest_byte(mask, n);
+    if (largest > 2) return 2;
     if (plan_length < 2 * n) return 11;
     uint32_t cycles = 0;
+    flips f;
     memset(plan, 0, 2 * n);
     memset(counts, 0, KINDS * sizeof *counts);
-    plan_node(mask, n, plan, 1, counts, &cycles);
+    plan_node(frozen_to_zero(mask, n, largest, &f), n, plan, 1, counts, &cycles);
     return 256 * (uint64_t)cycles;
 }
 
@@ -336,23 +344,24 @@ static void start_certain(const uint8_t *mask, size_t n, int32_t *work) {
             if (count_ones(mask + first, size) == size) fill(work + first, size, CERTAIN);
 }
 
-static void sweep_all(const uint8_t *mask, size_t n, int t, const uint8_t *plan, const int16_t *llrs, size_t sweeps,
-                      int32_t *work) {
+static void sweep_all(const uint8_t *mask, size_t n, int t, const uint8_t *plan, const int16_t *llrs, const flips *f,
+                      size_t sweeps, int32_t *work) {
     decoder d = {mask, plan, n};
     int32_t *lists = work + n * ((size_t)t + 1), *leaves = work + n * (size_t)t;
     memset(work, 0, n * (size_t)t * sizeof *work);
     if (SLIP == START_CERTAIN) start_certain(mask, n, work);
     for (size_t i = 0; i < n; i++) leaves[i] = mask[i] ? CERTAIN : 0;
     for (size_t i = 0; i < n; i++) lists[i] = llrs[i];
+    flip_words(f, lists, n);
     for (size_t s = 0; s < sweeps; s++) visit(&d, 1, lists, work, 0, n);
 }
 
-// Soft values and hard bits from the root's message, 2 where the sum is 0; how many are 2.
-static uint32_t decide(const int32_t *restrict message, const int16_t *restrict llrs, int32_t *restrict soft,
+// Soft values and hard bits from the root's message and list, 2 where the sum is 0; how many are 2.
+static uint32_t decide(const int32_t *restrict message, const int32_t *restrict list, int32_t *restrict soft,
                        uint8_t *restrict hard, size_t n) {
     uint32_t undecided = 0;
     for (size_t i = 0; i < n; i++) {
-        int32_t sum = SLIP == SOFT_ALONE ? message[i] : plus(message[i], llrs[i]);
+        int32_t sum = SLIP == SOFT_ALONE ? message[i] : plus(message[i], list[i]);
         uint32_t one = sum < 0, tie = SLIP != TIE_ZERO && sum == 0;
         soft[i] = message[i];
         hard[i] = (uint8_t)(one + 2 * tie);
@@ -378,20 +387,26 @@ uint64_t plain_decode(const uint8_t *mask, size_t n, const uint8_t *plan, size_t
                       size_t hard_length, uint8_t *payload, size_t payload_length, int32_t *work, size_t work_length) {
     int t = exponent_of(n);
     if (!t) return 1;
-    if (above_one(mask, n)) return 2;
+    uint8_t largest = largest_byte(mask, n);
+    if (largest > 2) return 2;
     if (llrs_length != n) return 3;
     if (sweeps < 1 || sweeps > 8) return 4;
+    flips f;
+    const uint8_t *zeros = frozen_to_zero(mask, n, largest, &f);
     uint32_t cycles = 0;
-    uint64_t number = test_plan(mask, n, plan, plan_length, &cycles);
+    uint64_t number = test_plan(zeros, n, plan, plan_length, &cycles);
     if (number) return number;
     if (has_lowest(llrs, n)) return 7;
-    size_t words = n * ((size_t)t + 3), unfrozen = n - count_ones(mask, n);
+    size_t words = n * ((size_t)t + 3), unfrozen = n - count_ones(zeros, n);
     if (soft_length < n || hard_length < n || payload_length < unfrozen) return 11;
     if (work_length < words) return 12;
-    sweep_all(mask, n, t, plan, llrs, sweeps, work);
-    uint64_t undecided = decide(work, llrs, soft, hard, n), check = 0;
+    if (f.any) transform(f.word, n);
+    sweep_all(zeros, n, t, plan, llrs, &f, sweeps, work);
+    uint64_t undecided = decide(work, work + n * ((size_t)t + 1), soft, hard, n), check = 0;
     if (undecided && SLIP != READ_ANYWAY) memset(payload, 2, unfrozen);
-    else check = (uint64_t)read_off(mask, n, hard, payload);
+    else check = (uint64_t)read_off(zeros, n, hard, payload);
+    flip_words(&f, soft, n);
+    flip_bits(&f, hard, n);
     memset(work, 0, words * sizeof *work);
     return 256 * (uint64_t)cycles * sweeps + (check << 40) + (undecided << 41);
 }

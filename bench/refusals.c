@@ -17,9 +17,9 @@ typedef struct {
     uint8_t hard[N], payload[K];
 } buffers;
 
-// Mask 11101000, cut at its two halves.
+// Mask 12101000, cut at its two halves.
 static const decode_arguments accepted = {
-    {1, 1, 1, 0, 1, 0, 0, 0}, {0, 0, 1, 1}, {3, -2, 5, 1, 4, -6, 2, -1}, N, 2 * N, 1, N, N, N, K, WORDS,
+    {1, 2, 1, 0, 1, 0, 0, 0}, {0, 0, 1, 1}, {3, -2, 5, 1, 4, -6, 2, -1}, N, 2 * N, 1, N, N, N, K, WORDS,
 };
 
 static uint64_t call(decode_call *decode, const decode_arguments *a, buffers *b) {
@@ -31,7 +31,7 @@ static uint64_t call(decode_call *decode, const decode_arguments *a, buffers *b)
 static uint64_t damage(decode_arguments *a, int way) {
     switch (way) {
     case 0: a->n = N - 1; return 1;
-    case 1: a->mask[N - 1] = 2; return 2;
+    case 1: a->mask[N - 1] = 3; return 2;
     case 2: a->llrs_length = N - 1; return 3;
     case 3: a->sweeps = 0; return 4;
     case 4: a->sweeps = 9; return 4;

@@ -1,5 +1,6 @@
 // The decoder with SSE2 intrinsics. The plan is turned once into a list of steps, which each sweep goes through.
 #include "baseline.h"
+#include "flips.h"
 #include "kinds.h"
 
 #include <emmintrin.h>
@@ -401,10 +402,11 @@ static int read_off(const uint8_t *mask, size_t n, size_t unfrozen, const uint8_
     return !wrong;
 }
 
-static void sweep_all(const builder *b, size_t t, const int16_t *llrs, size_t sweeps, int32_t *work) {
+static void sweep_all(const builder *b, size_t t, const int16_t *llrs, const flips *f, size_t sweeps, int32_t *work) {
     size_t n = b->n;
     int32_t *lists = work + n * (t + 1), *leaves = work + n * t;
     for (size_t i = 0; i < n; i++) lists[i] = llrs[i];
+    flip_words(f, lists, n);
     for (size_t i = 0; i < n; i++) leaves[i] = b->mask[i] ? CERTAIN : 0;
     fill(leaves - n, n, 0); // read by a small step before it is written
     for (size_t i = 0; i < b->zero_count; i++) fill(work + b->zeros[i].message, b->zeros[i].size, 0);
@@ -422,10 +424,13 @@ uint64_t sse2_decode(const uint8_t *mask, size_t n, const uint8_t *plan, size_t 
                      const int16_t *llrs, size_t llrs_length, int32_t *soft, size_t soft_length, uint8_t *hard,
                      size_t hard_length, uint8_t *payload, size_t payload_length, int32_t *work, size_t work_length) {
     if (n < 2 || n > 1024 || (n & (n - 1))) return 1;
-    if (above_one(mask, n)) return 2;
+    uint8_t largest = largest_byte(mask, n);
+    if (largest > 2) return 2;
     if (llrs_length != n) return 3;
     if (sweeps < 1 || sweeps > 8) return 4;
     if (plan_length != 2 * n || above_one(plan, 2 * n) || plan[0]) return 5;
+    flips f;
+    mask = frozen_to_zero(mask, n, largest, &f);
     uint16_t frozen[1024 + 1];
     step steps[4 * 1024], zeros[1024];
     count_frozen(mask, n, frozen);
@@ -437,10 +442,13 @@ uint64_t sse2_decode(const uint8_t *mask, size_t n, const uint8_t *plan, size_t 
     size_t t = (size_t)__builtin_ctzl(n), words = n * (t + 3), unfrozen = n - frozen[n];
     if (soft_length < n || hard_length < n || payload_length < unfrozen) return 11;
     if (work_length < words) return 12;
-    sweep_all(&b, t, llrs, sweeps, work);
+    if (f.any) transform(f.word, n);
+    sweep_all(&b, t, llrs, &f, sweeps, work);
     uint64_t undecided = decide(work, work + n * (t + 1), soft, hard, n), check = 0;
     if (undecided) memset(payload, 2, unfrozen);
     else check = (uint64_t)read_off(mask, n, unfrozen, hard, payload);
+    flip_words(&f, soft, n);
+    flip_bits(&f, hard, n);
     memset(work, 0, words * sizeof *work);
     return 256 * (uint64_t)b.cycles * sweeps + (check << 40) + (undecided << 41);
 }

@@ -59,7 +59,15 @@ static void mixed_mask(struct random *r, uint8_t *mask, size_t m) {
     mixed_mask(r, mask + m / 2, m / 2);
 }
 
-void random_mask(struct random *r, uint8_t *mask, size_t N) {
+/* Frozen positions are frozen to 1: none, all, or with a random chance. */
+static void random_ones(struct random *r, uint8_t *mask, size_t N) {
+    double chances[] = {0, 1, random_uniform(r), random_uniform(r)};
+    double chance = chances[random_below(r, 4)];
+    for (size_t i = 0; i < N; i++)
+        if (mask[i] && random_chance(r, chance)) mask[i] = REF_ONE;
+}
+
+static void random_shape(struct random *r, uint8_t *mask, size_t N) {
     double density = random_uniform(r);
     switch (random_below(r, 7)) {
     case 0:
@@ -75,6 +83,11 @@ void random_mask(struct random *r, uint8_t *mask, size_t N) {
     default:
         for (size_t i = 0; i < N; i++) mask[i] = (uint8_t)random_chance(r, density);
     }
+}
+
+void random_mask(struct random *r, uint8_t *mask, size_t N) {
+    random_shape(r, mask, N);
+    random_ones(r, mask, N);
 }
 
 void leaf_plan(uint8_t *plan, size_t N) {

@@ -21,7 +21,7 @@ void code_for_erasures(uint8_t *mask, size_t N, size_t K, double rate);
 void code_by_polarization(uint8_t *mask, size_t N, size_t K);
 
 /* A mask of one of several shapes: even density, one node of a kind, a polar code, a run, or nodes of kinds side by
- * side. */
+ * side. In most masks some or all frozen positions are frozen to 1. */
 void random_mask(struct random *r, uint8_t *mask, size_t N);
 
 /* Plans of 2N bytes that are allowed for the mask. */

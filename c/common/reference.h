@@ -12,6 +12,9 @@
 
 enum { REF_MAX_N = 1024, REF_MAX_STAGE = 10, REF_MAX_SWEEPS = 8, REF_KINDS = 8 };
 
+/* Mask bytes. The kinds of nodes see both frozen ones alike. */
+enum { REF_UNFROZEN = 0, REF_ZERO = 1, REF_ONE = 2 };
+
 /* Of captures: the drains, and the room that is asked for the text of their totals. */
 enum { REF_DRAINS = 64, REF_MAX_REPLAY = 6720 };
 
@@ -24,13 +27,16 @@ size_t ref_unfrozen(const uint8_t *mask, size_t N);
 /* word becomes u times the polar matrix; both have N bytes. */
 void ref_transform(const uint8_t *u, uint8_t *word, size_t N);
 
+/* The word of the frozen values, zeros elsewhere. */
+void ref_known_word(const uint8_t *mask, uint8_t *word, size_t N);
+
 /* The kind of a node with m positions of the mask, in request No. 4's order; -1 for none. */
 int ref_kind(const uint8_t *mask, size_t m);
 
 /* The kind of node p of the tree over a mask of N positions. */
 int ref_node_kind(const uint8_t *mask, size_t N, size_t p);
 
-/* Soft values after a number of sweeps, for accepted inputs. INT32_MAX is "certain". */
+/* Soft values after a number of sweeps, for accepted inputs. INT32_MAX is "certain", and -INT32_MAX certain of a 1. */
 void ref_scan(const uint8_t *mask, size_t N, const int16_t *llrs, size_t sweeps, int32_t *soft);
 
 int ref_samples(const float *samples, size_t N, const uint8_t *marks, size_t marks_length, float variance,

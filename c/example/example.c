@@ -11,6 +11,9 @@ enum { N = 256, K = 128, SWEEPS = 4 };
 static const uint32_t frozen[N / 32] = {0xFFFFFFFF, 0x17FFFFFF, 0x177FFFFF, 0x0001017F,
                                         0x013F7FFF, 0x00010117, 0x00000017, 0x00000000};
 
+/* The station's number, which both know too: positions are frozen to its bits. */
+enum { STATION = 0x5B };
+
 /* What a receiver keeps. The workspace may be shared by decodes that do not run at the same time. */
 static uint8_t mask[N], plan[2 * N], payload[K], word[N], hard[N], decoded[K];
 static uint8_t marks[N];
@@ -53,6 +56,17 @@ static void send_word(void) {
     }
 }
 
+/* The bits of the number stand in the last frozen positions, the lowest bit last; the other frozen positions are 0. A
+ * one in the first positions would flip few bits of the word, and a receiver of another number would correct these. */
+static void set_mask(unsigned number) {
+    for (size_t i = N; i-- > 0;) {
+        mask[i] = frozen[i / 32] >> i % 32 & 1 ? RUZNAVO_FROZEN_ZERO : RUZNAVO_UNFROZEN;
+        if (mask[i] == RUZNAVO_UNFROZEN) continue;
+        if (number & 1) mask[i] = RUZNAVO_FROZEN_ONE;
+        number /= 2;
+    }
+}
+
 static int different(const uint8_t *a, const uint8_t *b, size_t length) {
     int count = 0;
     for (size_t i = 0; i < length; i++) count += a[i] != b[i];
@@ -60,8 +74,7 @@ static int different(const uint8_t *a, const uint8_t *b, size_t length) {
 }
 
 int main(void) {
-    for (size_t i = 0; i < N; i++) mask[i] = frozen[i / 32] >> i % 32 & 1;
-
+    set_mask(STATION);
     uint64_t planned = accepted("plan", ruznavo_plan(mask, N, plan, sizeof plan, counts));
     printf("plan: %u cycles a sweep; cut nodes by kind:", (unsigned)ruznavo_cycles(planned));
     for (int kind = 0; kind < RUZNAVO_KINDS; kind++) printf(" %u", (unsigned)counts[kind]);

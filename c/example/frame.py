@@ -4,7 +4,8 @@
     python3 c/example/frame.py PATH-TO-libruznavo.so OUT.svg
 
 A payload is encoded, sent over a noisy channel, converted to LLRs and decoded. The last four bits of the word are fixed
-to 0 by frozen positions and are not sent (shortened); the first four are not sent either (punctured).
+by frozen positions, two to 0 and two to 1, and are not sent (shortened); the first four are not sent either
+(punctured).
 Exit status 1 if a payload bit is wrong or undecided. It needs the standard library only.
 """
 import collections
@@ -18,9 +19,10 @@ N, K, SWEEPS = 2**EXPONENT, 28, 4
 NOT_SENT = 4  # punctured positions at the start, and as many shortened ones at the end
 VARIANCE = 0.6
 SCALE = 256  # LLRs are 256 times as large, so that rounding to whole numbers loses less
-SEED = 3
+SEED = 26
 SENT, PUNCTURED, SHORTENED = 0, 1, 2  # marks, as in ruznavo.h
-LARGEST, CERTAIN, UNDECIDED = 32767, 2**31 - 1, 2  # LLR, soft value, bit
+UNFROZEN, FROZEN_ZERO, FROZEN_ONE = 0, 1, 2  # mask bytes
+LARGEST, CERTAIN, UNDECIDED = 32767, 2**31 - 1, 2  # LLR, soft value, bit; certain of a 1 is -CERTAIN
 KINDS = 8
 
 Frame = collections.namedtuple("Frame", "word llrs soft hard check undecided right")
@@ -61,14 +63,17 @@ def octets(values):
 
 
 def choose_mask():
-    """Frozen are the last positions, which fixes the word's last bits, and others with the largest erasure rates."""
+    """Frozen are the last positions, which fixes the word's last bits, and others with the largest erasure rates: one
+    of the last to 1, all others to 0."""
     rates = [0.4]
     while len(rates) < N:
         rates = [rate for z in rates for rate in (2 * z - z * z, z * z)]
     shortened = range(N - NOT_SENT, N)
     others = sorted(range(N - NOT_SENT), key=lambda i: -rates[i])
     frozen = set(shortened) | set(others[: N - K - NOT_SENT])
-    return octets([i in frozen for i in range(N)])
+    mask = [FROZEN_ZERO if i in frozen else UNFROZEN for i in range(N)]
+    mask[N - 2] = FROZEN_ONE
+    return octets(mask)
 
 
 def noise(drawn):
@@ -84,6 +89,13 @@ def receive(word, drawn):
     return (ctypes.c_float * N)(*samples), octets(marks)
 
 
+def turn_fixed(llrs, word):
+    """Shortened gives the LLR of a bit that is 0. A bit that is 1 in every word of the code has the other sign."""
+    for position in range(N - NOT_SENT, N):
+        if word[position]:
+            llrs[position] = -LARGEST
+
+
 def decode_frame(library):
     """What the picture shows of the frame, and whether the payload is right."""
     drawn = random.Random(SEED)
@@ -93,6 +105,7 @@ def decode_frame(library):
     samples, marks = receive(word, drawn)
     llrs = (ctypes.c_int16 * N)()
     accepted("samples", library.ruznavo_samples(samples, N, marks, N, VARIANCE / SCALE, llrs, N))
+    turn_fixed(llrs, word)
     accepted("plan", library.ruznavo_plan(mask, N, plan, len(plan), counts))
     soft, hard, decoded = (ctypes.c_int32 * N)(), octets([0] * N), octets([0] * K)
     work = (ctypes.c_int32 * (N * (EXPONENT + 3)))()
@@ -138,8 +151,10 @@ def dot(x, y):
     return f'<circle cx="{x:.1f}" cy="{y:.1f}" r="3" fill="white" stroke="{NOTHING}" stroke-width="1.4"/>'
 
 
-def triangle(x, y):
-    return f'<polygon points="{x:.1f},{y:.1f} {x + 5:.1f},{y + 10:.1f} {x - 5:.1f},{y + 10:.1f}" fill="{FIXED}"/>'
+def triangle(x, tip, height):
+    """It points up, or down where the height is negative."""
+    base = tip + height
+    return f'<polygon points="{x:.1f},{tip:.1f} {x + 5:.1f},{base:.1f} {x - 5:.1f},{base:.1f}" fill="{FIXED}"/>'
 
 
 def at(position):
@@ -170,14 +185,15 @@ def axes(name, top, largest, unit):
 
 
 def panel(name, top, values, word):
-    """A bar for each value, coloured by whether its sign speaks for the bit that was sent; None stands for certain."""
-    largest = max((abs(value) for value in values if value is not None), default=0) or 1
+    """A bar for each value, coloured by whether its sign speaks for the bit that was sent; a triangle where it is
+    infinite."""
+    largest = max((abs(value) for value in values if not math.isinf(value)), default=0) or 1
     middle, unit = top + HEIGHT / 2, (HEIGHT / 2 - 14) / largest
     parts = axes(name, top, largest, unit)
     for position, value in enumerate(values):
         x = at(position)
-        if value is None:
-            parts.append(triangle(x, top + 2))
+        if math.isinf(value):
+            parts.append(triangle(x, top + 2, 10) if value > 0 else triangle(x, top + HEIGHT - 2, -10))
         elif value == 0:
             parts.append(dot(x, middle))
         else:
@@ -203,7 +219,7 @@ def legend(y):
         (6, lambda x: bar(x, y, 10, RIGHT_BIT), "speaks for the bit that was sent"),
         (242, lambda x: bar(x, y, 10, WRONG_BIT), "for the other bit"),
         (388, lambda x: dot(x, y - 5), "0: for neither (?)"),
-        (534, lambda x: triangle(x, y - 10), "fixed to 0: LLR 32767 (shortened), soft certain"),
+        (534, lambda x: triangle(x, y - 10, 10), "fixed to 0 (up) or 1 (down): not sent, certain"),
     ]
     return [part for x, mark, words in marks for part in (mark(LEFT + x), text(LEFT + x + 12, y, words, 12, "start"))]
 
@@ -229,13 +245,18 @@ def decide(value):
     return UNDECIDED if value == 0 else int(value < 0)
 
 
+def unbounded(value, largest):
+    """The value, infinite where its size is the largest there is."""
+    return math.copysign(math.inf, value) if abs(value) == largest else value
+
+
 def draw(frame):
     alone = [decide(llr) for llr in frame.llrs]
-    fixed = [value == CERTAIN for value in frame.soft]
+    soft = [unbounded(value, CERTAIN) for value in frame.soft]
     shown = {
-        "LLR": [None if llr == LARGEST else llr for llr in frame.llrs],
-        "soft": [None if sure else value for sure, value in zip(fixed, frame.soft)],
-        "LLR + soft": [None if sure else a + b for sure, a, b in zip(fixed, frame.llrs, frame.soft)],
+        "LLR": [unbounded(llr, LARGEST) for llr in frame.llrs],
+        "soft": soft,
+        "LLR + soft": [llr + value for llr, value in zip(frame.llrs, soft)],
     }
     parts, top = title(frame, alone) + legend(80), HEAD
     for name, values in shown.items():

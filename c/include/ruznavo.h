@@ -19,20 +19,31 @@
  *     noticed.
  *
  * Sizes, for a code of N = 2^n positions, n from 1 to 10, of which K are unfrozen:
- *   mask       N bytes, 1 frozen to zero, 0 unfrozen
+ *   mask       N bytes: 0 unfrozen, 1 frozen to zero, 2 frozen to one
  *   plan       2N bytes; byte p belongs to node p of the tree: 1 is the root, 2p and 2p + 1 are the children of p,
  *              N to 2N - 1 the leaves. 1 cuts a node, 0 does not. Byte 0 is 0.
  *   payload    K bytes, one a bit; a decode with an undecided bit writes RUZNAVO_UNDECIDED to each of them
  *   word       N bytes, one a bit
  *   hard       N bytes, one a bit, RUZNAVO_UNDECIDED where the bit is undecided
  *   llrs       N values from -32767 to 32767; bit 0 is sent as +1, so a positive LLR speaks for bit 0
- *   soft       N values, each finite, within +-32767 * 1024, or RUZNAVO_CERTAIN
+ *   soft       N values, each finite, within +-32767 * 1024, or RUZNAVO_CERTAIN, or RUZNAVO_CERTAIN_ONE
  *   work       RUZNAVO_WORK_WORDS(N) words
  *
  * Soft values. soft[k] is what the code adds to llrs[k]: bit k of the word is decided by the sign of llrs[k] + soft[k].
  * It is 1 if that sum is negative and 0 if it is positive; if it is 0, a tie, the bit is undecided. RUZNAVO_CERTAIN
- * stands where the frozen positions fix the bit to 0, and the bit is 0 whatever the LLR. Test for it before adding: its
- * sum with an LLR can leave 32 bits. The sum of a finite soft value and an LLR never does.
+ * stands where the frozen positions fix the bit to 0, and the bit is 0 whatever the LLR; RUZNAVO_CERTAIN_ONE, which is
+ * minus the other, where they fix it to 1. Test for both before adding: the sum of either with an LLR can leave 32
+ * bits. The sum of a finite soft value and an LLR never does.
+ *
+ * Positions frozen to one. Sender and receiver know which positions are frozen, and to what: ruznavo_encode puts the
+ * known ones in, and the frozen check of a decode compares with them. Compared with a mask that has 1 in the place of
+ * each 2, the same bits of every word are flipped: those where the word of the frozen values, ruznavo_transform of a
+ * row that has 1 for each mask byte 2 and 0 elsewhere, has a 1. A decode equals this: flip the signs of the LLRs there,
+ * decode with that other mask, flip soft values and decided hard bits back there. So kinds of nodes, plans, cycles and
+ * the distance between words are the same, and on a channel that treats both bits alike errors are as frequent. How
+ * well two stations are told apart depends on where their ones stand: a one at position 0 alone flips a single bit,
+ * which a decode corrects like a wrong one. RUZNAVO_SHORTENED speaks for bit 0; where frozen positions fix an unsent
+ * bit to 1, its LLR is to be -32767.
  *
  * Undecided bits. An undecided bit is 2 in the hard word (RUZNAVO_UNDECIDED). One such bit leaves the whole payload
  * open: all K payload bytes are 2 then, and the frozen check is 0. ruznavo_undecided has the number of undecided bits
@@ -76,9 +87,9 @@ extern "C" {
 
 /* The version of this header and of the library that it belongs to. The shared object's name has the first number. */
 #define RUZNAVO_VERSION_MAJOR 1
-#define RUZNAVO_VERSION_MINOR 8
+#define RUZNAVO_VERSION_MINOR 9
 #define RUZNAVO_VERSION_PATCH 0
-#define RUZNAVO_VERSION "1.8.0"
+#define RUZNAVO_VERSION "1.9.0"
 
 #define RUZNAVO_MIN_N 2
 #define RUZNAVO_MAX_N 1024
@@ -89,8 +100,9 @@ extern "C" {
 #define RUZNAVO_MAX_CAPTURE 65536
 #define RUZNAVO_MAX_REPLAY 6720
 
-/* The soft value "certain". */
+/* The soft values "certain": of a bit 0, and of a bit 1. */
 #define RUZNAVO_CERTAIN INT32_MAX
+#define RUZNAVO_CERTAIN_ONE (-INT32_MAX)
 
 /* The byte of an undecided bit in a hard word, and of each payload bit of such a word. */
 #define RUZNAVO_UNDECIDED 2
@@ -104,10 +116,14 @@ extern "C" {
 #define RUZNAVO_WORK_WORDS(N) ((size_t)(N) * (size_t)(RUZNAVO_EXPONENT(N) + 3))
 #define RUZNAVO_MAX_WORK_WORDS RUZNAVO_WORK_WORDS(RUZNAVO_MAX_N)
 
+/* Mask bytes. */
+enum { RUZNAVO_UNFROZEN = 0, RUZNAVO_FROZEN_ZERO = 1, RUZNAVO_FROZEN_ONE = 2 };
+
 /* Marks of received positions. */
 enum { RUZNAVO_SENT = 0, RUZNAVO_PUNCTURED = 1, RUZNAVO_SHORTENED = 2 };
 
-/* Places of the planner's counts. A node that two kinds fit counts as the upper one: of 2 positions SPC, of 4 type III. */
+/* Places of the planner's counts. A node that two kinds fit counts as the upper one: of 2 positions SPC, of 4 type III.
+ * Frozen is frozen, to zero or to one. */
 enum {
     RUZNAVO_RATE_0,   /* all frozen */
     RUZNAVO_RATE_1,   /* none frozen */
@@ -124,7 +140,7 @@ enum {
 enum {
     RUZNAVO_OK = 0,
     RUZNAVO_BAD_LENGTH = 1,     /* N, given or as a length, is not a power of two from 2 to 1024 */
-    RUZNAVO_BAD_MASK = 2,       /* a mask byte above 1 */
+    RUZNAVO_BAD_MASK = 2,       /* a mask byte above 2 */
     RUZNAVO_BAD_COUNT = 3,      /* LLRs or position marks are not N, or the payload is not K */
     RUZNAVO_BAD_SWEEPS = 4,     /* sweeps outside 1 to RUZNAVO_MAX_SWEEPS */
     RUZNAVO_BAD_PLAN = 5,       /* plan is not 2N bytes, a plan byte above 1, or byte 0 not 0 */
@@ -147,7 +163,7 @@ static inline const char *ruznavo_number_name(unsigned number) {
     switch (number) {
     case RUZNAVO_OK: return "accepted";
     case RUZNAVO_BAD_LENGTH: return "N, given or as a length, not a power of two from 2 to 1024";
-    case RUZNAVO_BAD_MASK: return "mask byte above 1";
+    case RUZNAVO_BAD_MASK: return "mask byte above 2";
     case RUZNAVO_BAD_COUNT: return "LLRs or position marks not N, or payload not K";
     case RUZNAVO_BAD_SWEEPS: return "sweeps outside 1 to 8";
     case RUZNAVO_BAD_PLAN: return "plan not 2N bytes, a plan byte above 1, or byte 0 not 0";
@@ -183,11 +199,11 @@ static inline size_t ruznavo_text_length(uint64_t answer) { return (size_t)(answ
 static inline unsigned ruznavo_found(uint64_t answer) { return (unsigned)(answer >> 8 & 1); }
 
 /*
- * The frozen check of a decode: 1 exactly if no bit is undecided and the decoded frozen bits are all 0, that is, if the
- * hard word is a word of the code. It is no error detection: a wrong payload can have check 1, and a right one check 0.
- * At 8 sweeps, 55 of 200 wrong blocks had check 1 for (1024, 512), mask by polarization weight, at 2.5 dB, and 186 of
- * 216 for (1024, 896), mask by erasure rates, at 5.5 dB (docs/CURVES.md). A host that must know puts a CRC into the
- * payload.
+ * The frozen check of a decode: 1 exactly if no bit is undecided and each decoded frozen bit is what its position is
+ * frozen to, that is, if the hard word is a word of the code. It is no error detection: a wrong payload can have check
+ * 1, and a right one check 0. At 8 sweeps, 55 of 200 wrong blocks had check 1 for (1024, 512), mask by polarization
+ * weight, at 2.5 dB, and 186 of 216 for (1024, 896), mask by erasure rates, at 5.5 dB (docs/CURVES.md). A host that
+ * must know puts a CRC into the payload.
  */
 static inline unsigned ruznavo_check(uint64_t answer) { return (unsigned)(answer >> 40 & 1); }
 
@@ -206,8 +222,8 @@ uint64_t ruznavo_samples(const float *samples, size_t samples_length, const uint
                          float variance, int16_t *llrs, size_t llrs_length);
 
 /*
- * Encodes a payload: its bits go to the unfrozen positions in rising order, and the first N bytes of word become that
- * row times the polar matrix, in natural order.
+ * Encodes a payload: its bits go to the unfrozen positions in rising order, zeros and ones to the others as the mask
+ * says, and the first N bytes of word become that row times the polar matrix, in natural order.
  * Answers the number: 0, 1, 2, 3, 10 or 11.
  */
 uint64_t ruznavo_encode(const uint8_t *mask, size_t mask_length, const uint8_t *payload, size_t payload_length,
@@ -258,7 +274,7 @@ uint64_t ruznavo_decode(const uint8_t *mask, size_t mask_length, const uint8_t *
  * that rate and at N = 128, most at rate 1/16 (docs/CURVES.md).
  *   n     N itself, not its exponent
  *   k     K
- *   mask  N bytes or more; the first N are written
+ *   mask  N bytes or more; the first N are written, a frozen position as 1
  * Answers the number: 0, or the first of 1, 16 and 11.
  */
 uint64_t ruznavo_mask_by_weight(size_t n, size_t k, uint8_t *mask, size_t mask_length);

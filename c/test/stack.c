@@ -67,6 +67,17 @@ static void set_llrs(int16_t llr) {
     for (size_t i = 0; i < N; i++) llrs[i] = llr;
 }
 
+/* Encoder and decoder with every other frozen position frozen to 1. The LLRs speak for the word of the zero payload. */
+static int measure_ones(void) {
+    for (size_t i = 0; i < N; i++)
+        if (mask[i] && i / 2 % 2) mask[i] = RUZNAVO_FROZEN_ONE;
+    memset(payload, 0, sizeof payload);
+    int failed = measure("encode, positions frozen to 1", call_encode, 200);
+    for (size_t i = 0; i < N; i++) llrs[i] = bits[i] ? -1 : 1;
+    failed += measure("decode, positions frozen to 1", call_decode, 5000) || ruznavo_undecided(answer) != 0;
+    return failed;
+}
+
 /* Decodes with no bit undecided, and with some. */
 static int measure_decodes(void) {
     set_llrs(1);
@@ -88,8 +99,7 @@ int main(void) {
     failed += measure("samples, one not sent", call_samples, 200) + measure("encode", call_encode, 200) +
                  measure("transform", call_transform, 200) + measure("plan", call_plan, 2000);
     leaf_plan(plan, N);
-    failed += measure("check_plan", call_check_plan, 2000) + measure_decodes();
-    set_llrs(1);
+    failed += measure("check_plan", call_check_plan, 2000) + measure_decodes() + measure_ones();
     capture_frame(&capture, 63, RUZNAVO_MAX_SWEEPS, llrs, N);
     capture_end(&capture, mask, N);
     failed += measure("replay", call_replay, 80000) + measure("mask_by_weight", call_mask_by_weight, 2500) +

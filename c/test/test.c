@@ -49,8 +49,12 @@ static uint64_t number_seen[CALLS][NUMBERS], stage_seen[CALLS][REF_MAX_STAGE + 1
 /* Accepted decodes by n: without an undecided bit and with one; and those without by their frozen check. */
 static uint64_t undecided_seen[2][REF_MAX_STAGE + 1], check_seen[2];
 
-/* Nodes of a kind by their stage, in accepted decodes: those that the plan goes below, and those that it cuts. */
-static uint64_t kind_seen[2][REF_KINDS][REF_MAX_STAGE + 1];
+/* Nodes of a kind by their stage, in accepted decodes: those that the plan goes below, and those that it cuts; and of
+ * the cut ones those that have a position frozen to 1. */
+static uint64_t kind_seen[2][REF_KINDS][REF_MAX_STAGE + 1], kind_with_ones[REF_KINDS][REF_MAX_STAGE + 1];
+
+/* Accepted calls whose mask has a position frozen to 1. */
+static uint64_t ones_seen[CALLS];
 
 enum slot { MASK, PLAN_BYTES, LLRS, SOFT, HARD, PAYLOAD, WORK, SAMPLE_VALUES, MARKS, WORD, COUNTS, CAPTURE, TEXT, SLOTS };
 static const char *const slot_names[SLOTS] = {"mask",    "plan",  "llrs", "soft",   "hard",    "payload", "work",
@@ -97,6 +101,14 @@ static void compare(enum call call, uint64_t answer, uint64_t expected, const en
     for (size_t i = 0; i < count; i++)
         if (guarded_differs(&slots[used[i]])) stop(call_names[call]);
     number_seen[call][expected & 255]++;
+}
+
+static int has_ones(const uint8_t *mask, size_t length) { return memchr(mask, RUZNAVO_FROZEN_ONE, length) != NULL; }
+
+/* Counts an accepted call with a mask. */
+static void count_mask(enum call call, const uint8_t *mask, size_t N) {
+    stage_seen[call][ref_exponent(N)]++;
+    ones_seen[call] += (uint64_t)has_ones(mask, N);
 }
 
 /* ---- inputs */
@@ -146,8 +158,8 @@ static int damages(struct random *r) { return random_chance(r, 0.5) ? 0 : (int)r
 static void damage_mask(struct random *r, struct code *c) {
     switch (random_below(r, 3)) {
     case 0: c->mask_length = other_length(r, c->N); break;
-    case 1: damage_byte(r, c->mask, c->N, 1); break;
-    default: c->mask[random_below(r, c->N)] ^= 1;
+    case 1: damage_byte(r, c->mask, c->N, RUZNAVO_FROZEN_ONE); break;
+    default: c->mask[random_below(r, c->N)] = (uint8_t)random_below(r, 3);
     }
 }
 
@@ -250,7 +262,7 @@ static void encode_case(struct random *r) {
     lock(used, 2, 1);
     int number = ref_encode(twin(MASK), c.mask_length, twin(PAYLOAD), payload_length, twin(WORD), room);
     compare(ENCODE, answer, answer_of(number, 0), used, 3);
-    if (number == 0) stage_seen[ENCODE][ref_exponent(c.mask_length)]++;
+    if (number == 0) count_mask(ENCODE, c.mask, c.mask_length);
 }
 
 /* ---- transform */
@@ -292,7 +304,7 @@ static void plan_case(struct random *r) {
     lock(used, 1, 1);
     int number = ref_plan(twin(MASK), c.mask_length, twin(PLAN_BYTES), room, twin(COUNTS), &cycles);
     compare(PLAN, answer, answer_of(number, cycles), used, 3);
-    if (number == 0) stage_seen[PLAN][ref_exponent(c.mask_length)]++;
+    if (number == 0) count_mask(PLAN, c.mask, c.mask_length);
 }
 
 struct plan {
@@ -348,7 +360,7 @@ static void check_plan_case(struct random *r) {
     lock(used, 2, 1);
     int number = ref_check_plan(twin(MASK), c.mask_length, twin(PLAN_BYTES), p.length, &cycles);
     compare(CHECK_PLAN, answer, answer_of(number, cycles), used, 2);
-    if (number == 0) stage_seen[CHECK_PLAN][ref_exponent(c.mask_length)]++;
+    if (number == 0) count_mask(CHECK_PLAN, c.mask, c.mask_length);
 }
 
 /* ---- decoder */
@@ -408,9 +420,44 @@ static void damage_decode(struct random *r, struct code *c, struct plan *p, int1
 static void count_kinds(const uint8_t *mask, size_t N, const uint8_t *plan, size_t p, int stage) {
     int kind = ref_node_kind(mask, N, p);
     if (kind >= 0) kind_seen[plan[p]][kind][stage]++;
-    if (plan[p]) return;
+    if (plan[p]) {
+        kind_with_ones[kind][stage] += (uint64_t)has_ones(mask + ((p << stage) - N), (size_t)1 << stage);
+        return;
+    }
     count_kinds(mask, N, plan, 2 * p, stage - 1);
     count_kinds(mask, N, plan, 2 * p + 1, stage - 1);
+}
+
+/* An accepted decode again, as request No. 9 also says it: the LLRs flipped where the word of the frozen values has a 1,
+ * 1 in the place of each mask byte 2, soft values and decided hard bits flipped back. */
+static void compare_flipped(const uint8_t *mask, size_t N, const uint8_t *plan, size_t sweeps, const int16_t *llrs,
+                            uint64_t answer) {
+    static int32_t soft[REF_MAX_N], work[RUZNAVO_MAX_WORK_WORDS];
+    int16_t turned[REF_MAX_N];
+    uint8_t word[REF_MAX_N], zeros[REF_MAX_N], hard[REF_MAX_N], payload[REF_MAX_N];
+    ref_known_word(mask, word, N);
+    for (size_t i = 0; i < N; i++) {
+        zeros[i] = mask[i] != RUZNAVO_UNFROZEN;
+        turned[i] = (int16_t)(word[i] ? -llrs[i] : llrs[i]);
+    }
+    uint64_t flipped = ruznavo_decode(zeros, N, plan, 2 * N, sweeps, turned, N, soft, N, hard, N, payload, N, work,
+                                      RUZNAVO_MAX_WORK_WORDS);
+    for (size_t i = 0; i < N; i++) {
+        if (word[i]) soft[i] = -soft[i];
+        if (word[i] && hard[i] != RUZNAVO_UNDECIDED) hard[i] ^= 1;
+    }
+    if (flipped != answer || memcmp(payload, buffer(PAYLOAD), ref_unfrozen(mask, N))) stop("a flipped frame's answer");
+    if (memcmp(soft, buffer(SOFT), N * sizeof *soft) || memcmp(hard, buffer(HARD), N)) stop("a flipped frame");
+}
+
+/* Counts an accepted decode. */
+static void count_decode(const struct code *c, const struct plan *p, size_t sweeps, int check, size_t undecided) {
+    int stage = ref_exponent(c->mask_length);
+    count_mask(DECODE, c->mask, c->mask_length);
+    sweeps_seen[sweeps]++;
+    undecided_seen[undecided > 0][stage]++;
+    if (undecided == 0) check_seen[check]++;
+    count_kinds(c->mask, c->mask_length, p->bytes, 1, stage);
 }
 
 static void decode_case(struct random *r) {
@@ -447,11 +494,8 @@ static void decode_case(struct random *r) {
     compare(DECODE, answer, answer_of(number, cycles) + ((uint64_t)check << 40) + ((uint64_t)undecided << 41), used, 7);
     if (ruznavo_check(answer) != (unsigned)check || ruznavo_undecided(answer) != undecided) stop("the answer's parts");
     if (number != 0) return;
-    stage_seen[DECODE][ref_exponent(c.mask_length)]++;
-    sweeps_seen[m.sweeps]++;
-    undecided_seen[undecided > 0][ref_exponent(c.mask_length)]++;
-    if (undecided == 0) check_seen[check]++;
-    count_kinds(c.mask, c.mask_length, p.bytes, 1, ref_exponent(c.mask_length));
+    count_decode(&c, &p, m.sweeps, check, undecided);
+    if (has_ones(c.mask, c.mask_length)) compare_flipped(c.mask, c.mask_length, p.bytes, m.sweeps, llrs, answer);
 }
 
 /* ---- captures */
@@ -493,7 +537,7 @@ static void damage_capture(struct random *r, const struct code *c, struct captur
     switch (random_below(r, 6)) {
     case 0: all->length = other_length(r, all->length < LONGEST ? all->length : LONGEST); break;
     case 1: trailer[random_below(r, CAPTURE_TRAILER)] ^= (uint8_t)(1u << random_below(r, 8)); break;
-    case 2: damage_byte(r, trailer - c->N, c->N, 1); break;
+    case 2: damage_byte(r, trailer - c->N, c->N, RUZNAVO_FROZEN_ONE); break;
     case 3: lengthen(r, all); break;
     default: damage_frame(r, c, all);
     }
@@ -530,7 +574,7 @@ static void replay_case(struct random *r) {
     lock(used, 1, 1);
     int number = ref_replay(twin(CAPTURE), all.length, twin(TEXT), room, &written);
     compare(REPLAY, answer, answer_of(number, written), used, 2);
-    if (number == 0) stage_seen[REPLAY][ref_exponent(c.N)]++;
+    if (number == 0) count_mask(REPLAY, c.mask, c.N);
 }
 
 /* ---- masks */
@@ -576,7 +620,7 @@ static void mask_for_distance_case(struct random *r) {
     if (number == 0) stage_seen[MASK_FOR_DISTANCE][ref_exponent(N)]++, found_seen[found]++;
 }
 
-/* ---- document 01's frames, so that library and reference cannot be wrong alike there */
+/* ---- document 01's frames and others, so that library and reference cannot be wrong alike there */
 
 /* What is expected of a frame: soft values, hard word and payload, and the parts of the answer. */
 struct frame {
@@ -606,6 +650,20 @@ static const struct frame frames[] = {
     {"10", 1, {4, -4}, {-4, 4}, "22", "2", 2, 0, 2},
     {"1100", 1, {1, -2, -1, -4}, {-1, -4, 1, -2}, "2121", "22", 2, 0, 2},
     {"11", 1, {0, 0}, {RUZNAVO_CERTAIN, RUZNAVO_CERTAIN}, "00", "", 0, 1, 0},
+    /* and positions frozen to 1: REP and SPC, type IV with ties, type II, type I, type III, REP, SPC, SPC and rate-0 at
+     * one sweep and at two, rate-0 twice, and two leaves */
+    {"21201000", 1, {3, -2, 5, 1, 4, -6, 2, -1}, {-1, 0, -2, 1, -1, 0, -4, 3}, "01000110", "0110", 10, 1, 0},
+    {"21200000", 1, {3, -2, 5, 1, 4, -6, 2, -1}, {-1, 0, -2, -1, -1, 0, -4, 1}, "01020112", "22222", 4, 0, 2},
+    {"12112000", 1, {3, -2, 5, 1, 4, -6, 2, -1}, {-4, 6, 2, 0, -3, 2, 5, 2}, "10000100", "100", 4, 1, 0},
+    {"21121100", 1, {3, -2, 5, 1, 4, -6, 2, -1}, {1, 8, -9, 5, 0, 0, 2, -5}, "00100101", "11", 2, 1, 0},
+    {"1200", 1, {1, 2, 3, 4}, {-3, -4, -1, -2}, "1100", "00", 2, 1, 0},
+    {"2110", 1, {5, -3, 2, 1}, {0, -2, -7, -6}, "0111", "1", 2, 1, 0},
+    {"2000", 1, {5, -3, 2, 1}, {1, -1, 1, 2}, "0100", "100", 2, 1, 0},
+    {"1012", 1, {5, -3, 2, 1}, {1, -2, RUZNAVO_CERTAIN_ONE, RUZNAVO_CERTAIN_ONE}, "0111", "0", 6, 0, 0},
+    {"1012", 2, {5, -3, 2, 1}, {-3, 5, RUZNAVO_CERTAIN_ONE, RUZNAVO_CERTAIN_ONE}, "0011", "1", 12, 1, 0},
+    {"21", 1, {7, -4}, {RUZNAVO_CERTAIN_ONE, RUZNAVO_CERTAIN}, "10", "", 0, 1, 0},
+    {"22", 1, {0, 0}, {RUZNAVO_CERTAIN, RUZNAVO_CERTAIN_ONE}, "01", "", 0, 1, 0},
+    {"02", 1, {0, -4}, {0, RUZNAVO_CERTAIN_ONE}, "21", "2", 2, 0, 1},
 };
 
 /* Whether bytes are these digits. */
@@ -645,17 +703,24 @@ static void run_undecided(void) {
         if (hard[i] != RUZNAVO_UNDECIDED || payload[i] != RUZNAVO_UNDECIDED) stop("an undecided bit");
 }
 
-/* A capture of one frame, whose two bits are undecided: the check is 0, and both bits differ from the LLRs' signs. */
-static void run_undecided_capture(void) {
-    static const uint8_t mask[2] = {1, 0};
-    static const int16_t llrs[2] = {3, -3};
-    static const char line[] = "5 1 0 2 2\n";
+/* A capture of one frame of two positions. */
+static void run_capture(uint8_t first, uint8_t second, int16_t first_llr, int16_t second_llr, const char *line) {
+    const uint8_t mask[2] = {first, second};
+    const int16_t llrs[2] = {first_llr, second_llr};
     static uint8_t text[RUZNAVO_MAX_REPLAY];
     static struct capture all;
+    all.frames = all.length = 0;
     capture_frame(&all, 5, 1, llrs, 2);
     capture_end(&all, mask, 2);
     uint64_t answer = ruznavo_replay(all.bytes, all.length, text, sizeof text);
-    if (answer != answer_of(0, strlen(line)) || memcmp(text, line, strlen(line))) stop("an undecided frame of a capture");
+    if (answer != answer_of(0, strlen(line)) || memcmp(text, line, strlen(line))) stop(line);
+}
+
+/* Two undecided bits: the check is 0, and both differ from the LLRs' signs. Two bits that are fixed to 1: the check is
+ * 1, and the first differs. */
+static void run_captures(void) {
+    run_capture(RUZNAVO_FROZEN_ZERO, RUZNAVO_UNFROZEN, 3, -3, "5 1 0 2 2\n");
+    run_capture(RUZNAVO_FROZEN_ZERO, RUZNAVO_FROZEN_ONE, 3, -3, "5 1 1 1 0\n");
 }
 
 /* The report's places by name: a plan with one cut, the root. Of 2 and 4 positions two kinds fit. */
@@ -666,7 +731,9 @@ static void run_counts(void) {
     } one_cut[] = {{"11", RUZNAVO_RATE_0},         {"00", RUZNAVO_RATE_1},         {"10", RUZNAVO_SPC},
                    {"1000", RUZNAVO_SPC},          {"1110", RUZNAVO_REP},          {"1100", RUZNAVO_TYPE_III},
                    {"11000000", RUZNAVO_TYPE_III}, {"11111100", RUZNAVO_TYPE_I},   {"11111000", RUZNAVO_TYPE_II},
-                   {"11100000", RUZNAVO_TYPE_IV}};
+                   {"11100000", RUZNAVO_TYPE_IV},  {"12", RUZNAVO_RATE_0},         {"2000", RUZNAVO_SPC},
+                   {"1220", RUZNAVO_REP},          {"12000000", RUZNAVO_TYPE_III}, {"21112100", RUZNAVO_TYPE_I},
+                   {"11112000", RUZNAVO_TYPE_II},  {"22200000", RUZNAVO_TYPE_IV}};
     for (size_t i = 0; i < sizeof one_cut / sizeof *one_cut; i++) {
         uint8_t mask[8], plan[16];
         uint32_t counts[RUZNAVO_KINDS];
@@ -678,20 +745,37 @@ static void run_counts(void) {
     }
 }
 
+/* Masks of which each byte stands first: up to 2 they are accepted. */
+static void run_mask_bytes(void) {
+    for (unsigned byte = 0; byte < 256; byte++) {
+        uint8_t mask[2] = {(uint8_t)byte, 0}, plan[4];
+        uint32_t counts[RUZNAVO_KINDS];
+        unsigned number = ruznavo_number(ruznavo_plan(mask, 2, plan, 4, counts));
+        if (number != (byte > 2 ? RUZNAVO_BAD_MASK : RUZNAVO_OK)) stop("a mask byte");
+    }
+}
+
+/* The word of payload 0011 under a mask: document 01's ninth frame, and one with positions frozen to 1. */
+static void run_words(void) {
+    static const uint8_t masks[2][8] = {{1, 1, 1, 0, 1, 0, 0, 0}, {1, 2, 1, 0, 2, 0, 0, 0}}, payload[4] = {0, 0, 1, 1},
+                         words[2][8] = {{0, 1, 0, 1, 0, 1, 0, 1}, {0, 0, 0, 1, 1, 1, 0, 1}};
+    uint8_t bits[2][8];
+    for (int i = 0; i < 2; i++) {
+        if (ruznavo_encode(masks[i], 8, payload, 4, bits[0], 8) || ref_encode(masks[i], 8, payload, 4, bits[1], 8))
+            stop("the word's answer");
+        if (memcmp(bits[0], words[i], 8) || memcmp(bits[1], words[i], 8)) stop("the word");
+    }
+}
+
 static void run_frames(void) {
-    static const uint8_t mask[8] = {1, 1, 1, 0, 1, 0, 0, 0}, payload[4] = {0, 0, 1, 1},
-                         word[8] = {0, 1, 0, 1, 0, 1, 0, 1};
     static const float samples[8] = {0.125f, 0.25f, -0.25f, 0.75f, 16383.5f, 16384.0f, 1.0f, NAN};
     static const uint8_t marks[8] = {0, 0, 0, 0, 0, 0, 1, 2};
     static const int16_t llrs[8] = {0, 1, -1, 2, 32767, 32767, 0, 32767};
-    uint8_t bits[2][8];
     int16_t values[2][8];
     for (size_t i = 0; i < sizeof frames / sizeof *frames; i++) run_frame(&frames[i]);
     run_undecided();
-    run_undecided_capture();
-    if (ruznavo_encode(mask, 8, payload, 4, bits[0], 8) || ref_encode(mask, 8, payload, 4, bits[1], 8))
-        stop("the word's answer");
-    if (memcmp(bits[0], word, 8) || memcmp(bits[1], word, 8)) stop("the word");
+    run_captures();
+    run_words();
     if (ruznavo_samples(samples, 8, marks, 8, 1, values[0], 8) || ref_samples(samples, 8, marks, 8, 1, values[1], 8))
         stop("the samples' answer");
     if (memcmp(values[0], llrs, sizeof llrs) || memcmp(values[1], llrs, sizeof llrs)) stop("the samples");
@@ -744,12 +828,17 @@ static void report(void) {
     }
     printf("decodes accepted with an undecided bit: %" PRIu64 "\n", undecided_decodes());
     printf("decodes accepted with none, frozen check 0: %" PRIu64 ", 1: %" PRIu64 "\n", check_seen[0], check_seen[1]);
+    printf("decodes accepted with a position frozen to 1: %" PRIu64 "\n", ones_seen[DECODE]);
     printf("masks for a distance, none: %" PRIu64 ", found: %" PRIu64 "\n", found_seen[0], found_seen[1]);
 }
 
-/* A run of some length has tried every number that a call can answer, every N, every sweep count, undecided bits,
- * without these both checks, and masks for a distance that are found and that are not. */
+/* A run of some length has tried every number that a call can answer, every N, positions frozen to 1 in each call with
+ * a mask, every sweep count, undecided bits, without these both checks, and masks for a distance that are found and
+ * that are not. */
 static void all_tried(void) {
+    static const enum call with_mask[] = {ENCODE, PLAN, CHECK_PLAN, DECODE, REPLAY};
+    for (size_t i = 0; i < sizeof with_mask / sizeof *with_mask; i++)
+        if (!ones_seen[with_mask[i]]) stop("positions frozen to 1 not tried");
     for (int call = 0; call < CALLS; call++) {
         for (int number = 0; number < NUMBERS; number++)
             if ((number_seen[call][number] > 0) != (answers[call] >> number & 1))
@@ -764,8 +853,8 @@ static void all_tried(void) {
     if (!found_seen[0] || !found_seen[1]) stop("a mask for a distance, found or not, not tried");
 }
 
-/* A longer run has cut every kind at every size at which a node has it, and gone below it where there are children. And
- * it has decoded with an undecided bit and with none at every N. */
+/* A longer run has cut every kind at every size at which a node has it, also with a position frozen to 1, and gone
+ * below it where there are children. And it has decoded with an undecided bit and with none at every N. */
 static void all_kinds_tried(void) {
     static const int least_stage[REF_KINDS] = {0, 0, 1, 2, 2, 3, 3, 3};
     for (int n = 1; n <= REF_MAX_STAGE; n++)
@@ -774,6 +863,7 @@ static void all_kinds_tried(void) {
         for (int n = 0; n <= REF_MAX_STAGE; n++) {
             int exists = n >= least_stage[kind];
             if ((kind_seen[1][kind][n] > 0) != exists) stop("a kind not cut at a size, or not one of that size");
+            if ((kind_with_ones[kind][n] > 0) != (exists && kind != RUZNAVO_RATE_1)) stop("a kind not cut with ones");
             if ((kind_seen[0][kind][n] > 0) != (exists && n > 0)) stop("a kind not gone below at a size");
         }
 }
@@ -790,6 +880,7 @@ int main(int argc, char **argv) {
     run_header();
     run_frames();
     run_counts();
+    run_mask_bytes();
     run_mask();
     for (case_number = first; case_number < first + cases; case_number++) {
         struct random r = random_case(seed, case_number);
