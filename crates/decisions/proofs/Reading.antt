@@ -2,24 +2,24 @@
 use mathlib.Core.Path.{_≡_, refl, sym, _∙_, ap, ap₂, subst}
 use mathlib.Core.Bool.{Bool, true, cond, _&&_}
 use mathlib.Core.List.{List, [], _∷_, _++_}
-use Prim.Native.Nat.{ℕ, zero, suc, _+_, _-_, _^_, _<_, _≤_}
+use Prim.Native.Nat.{ℕ, zero, suc, _+_, _*_, _-_, _%_, _^_, _<_, _≤_}
 use native.Mathlib.Nat.{zero-add}
 use native.Mathlib.Omega.{arith}
 use lib.Dec.{eqb}
 use lib.IntN.{ℤ}
-use lib.ListN.{length, getD, take, drop, replicate, List·getD-append}
+use lib.ListN.{length, getD, take, drop, replicate, take-append-drop, List·getD-append}
 use lib.Seq.{length-take-le, take-at, drop-at, getD-append-add, getD-drop}
-use Rattle.model.specs.Lists.{tabulate, over, bit}
+use Rattle.model.specs.Lists.{tabulate, total, over, bit}
 use Rattle.model.specs.Soft.{plus, softOf}
-use Rattle.model.specs.Encoding.{isUnfrozen, isKnownOne, unfrozen, transform, payloadOf, frozenMatch}
+use Rattle.model.specs.Encoding.{polarMatrix, times, transform, isUnfrozen, isKnownOne, unfrozen, payloadOf, frozenMatch}
 use Rattle.model.specs.Scan.{undecidedIn}
 use Rattle.model.proofs.Lists.{length-tabulate, getD-tabulate, bit-small}
-use Rattle.model.proofs.Transform.{length-transform, transform-bit}
+use Rattle.model.proofs.Transform.{length-transform, transform-bit, undo}
 use Rattle.model.proofs.Undecided.{payload-decided, check-decided, payload-undecided, check-undecided}
 use Rattle.words.specs.Words.{word, write}
 use Rattle.words.proofs.Store.{write-is, write-ext, write-over}
 use Rattle.transform.specs.Steps.{AllBits}
-use Rattle.decisions.specs.Bits.{decisionAt, negativeAt, wordDecisions, BitsRoom, WordRead, ReadOff}
+use Rattle.decisions.specs.Bits.{decisionAt, negativeAt, wordDecisions, WordRead, ReadOff}
 use Rattle.decisions.proofs.Buffers.{length-over}
 use Rattle.decisions.proofs.Folds.{bit-most, no-ties}
 
@@ -51,19 +51,15 @@ write-front z w n f h =
         ∙ getD-append-add (tabulate n f) (drop (length (tabulate n f)) w) i z
         ∙ ap (λ (k : ℕ). getD (drop k w) i z) len ∙ getD-drop n w i z ∙ ap (λ (k : ℕ). getD w k z) e
 
--- ---- the decoded u
-module _ (hard u copied : List ℕ) (n N : ℕ) (room : BitsRoom n N (length hard) (length u)) (ec : copied ≡ over (take N hard) u) where
-  len : length (take N hard) ≡ N
-  len = length-take-le N hard (room .from-room)
+-- ---- the front of a copy
+pub copied-front : (from to copied : List ℕ) (N : ℕ) → N ≤ length from → copied ≡ over (take N from) to → take N copied ≡ take N from
+copied-front from to copied N room e = ap (take N) e ∙ take-over (take N from) to N (length-take-le N from room)
 
-  pub copied-front : take N copied ≡ take N hard
-  copied-front = ap (take N) ec ∙ take-over (take N hard) u N len
-
-  pub bits-law : (v : List ℕ) → v ≡ transform n (take N copied) → v ++ drop N copied ≡ over (transform n (take N hard)) u
+-- ---- the front of u transformed where it stands
+module _ (u v : List ℕ) (n N : ℕ) (size : N ≡ 2 ^ n) (e : v ≡ transform n (take N u)) where
+  pub front-transformed : v ++ drop N u ≡ over (transform n (take N u)) u
   unfolding over
-  bits-law v ev =
-      ap₂ (λ (x y : List ℕ). x ++ y) (ev ∙ ap (transform n) copied-front) (ap (drop N) ec ∙ drop-over (take N hard) u N len)
-      ∙ ap (λ (k : ℕ). transform n (take N hard) ++ drop k u) (sym (length-transform n (take N hard) ∙ sym (room .size)))
+  front-transformed = ap (λ (l : List ℕ). l ++ drop N u) e ∙ ap (λ (k : ℕ). transform n (take N u) ++ drop k u) (size ∙ sym (length-transform n (take N u)))
 
 -- ---- a longer u reads the same
 pub payload-front : (mask u tail : List ℕ) → length mask ≤ length u → payloadOf mask (u ++ tail) ≡ payloadOf mask u
@@ -104,6 +100,28 @@ unfolding tabulate
 tabulate-bits zero f h k = omega arith
 tabulate-bits (suc n) f h zero = h 0
 tabulate-bits (suc n) f h (suc k) = tabulate-bits n (λ j. f (suc j)) (λ j. h (suc j)) k
+
+transform-bits : (n : ℕ) (u : List ℕ) → AllBits (transform n u)
+unfolding transform times
+transform-bits n u = tabulate-bits (2 ^ n) (λ j. total _+_ 0 (2 ^ n) (λ i. getD u i 0 * polarMatrix n i j) % 2) (λ j. omega arith)
+
+-- ---- a word transformed where it stands, and back
+module _ (hard turned : List ℕ) (n N : ℕ) (size : N ≡ 2 ^ n) (room : N ≤ length hard) (e : turned ≡ over (transform n (take N hard)) hard) where
+  turned-front : take N turned ≡ transform n (take N hard)
+  turned-front = ap (take N) e ∙ take-over (transform n (take N hard)) hard N (length-transform n (take N hard) ∙ sym size)
+
+  pub turned-bits : AllBits (take N turned)
+  turned-bits = subst AllBits (sym turned-front) (transform-bits n (take N hard))
+
+  pub turned-long : length (take N turned) ≡ N
+  turned-long = ap length turned-front ∙ length-transform n (take N hard) ∙ sym size
+
+  pub turned-back : AllBits (take N hard) → (v : List ℕ) → v ≡ transform n (take N turned) → v ++ drop N turned ≡ hard
+  turned-back bits v ev =
+      ap₂ (λ (x y : List ℕ). x ++ y)
+      (ev ∙ ap (transform n) turned-front ∙ undo n (take N hard) (length-take-le N hard room ∙ size) (λ k h. bits k))
+      (ap (drop N) e ∙ drop-over (transform n (take N hard)) hard N (length-transform n (take N hard) ∙ sym size))
+      ∙ take-append-drop N hard
 
 -- ---- the steps of reading off: the hard word, and what its undecided bits decide
 module _ (mask : List ℕ) (llrs soft : List ℤ) (hard payload : List ℕ) (t n : ℕ) (room : n ≤ length hard) {ties : ℕ} (counted : ties ≡ undecidedIn (wordDecisions llrs soft n)) where

@@ -34,12 +34,6 @@ pub record Decidable (llrs soft : List ℤ) (N hard : ℕ) : Type 0 where
   pub softs : N ≤ length soft
   pub bits : N ≤ hard
 
--- room for a word of N = 2^n bits
-pub record BitsRoom (n N from to : ℕ) : Type 0 where
-  pub size : N ≡ 2 ^ n
-  pub from-room : N ≤ from
-  pub to-room : N ≤ to
-
 -- what a hard word of N = 2^n bits requires: a mask's bytes, and room for it and for the payload
 pub record WordRoom (mask : List ℕ) (n N hard payload : ℕ) : Type 0 where
   pub size : N ≡ 2 ^ n

@@ -15,7 +15,7 @@ ghost use Rattle.model.specs.Encoding as encoding;
 ghost use Rattle.model.specs.Scan.{undecidedIn};
 ghost use Rattle.transform.specs.Steps.{AllBits};
 ghost use Rattle.words.specs.Words.{write};
-ghost use Rattle.decisions.specs.Bits.{decision, decisionAt, negativeAt, wordDecisions, Decidable, BitsRoom, WordRoom, WordRead, Readable, ReadOff};
+ghost use Rattle.decisions.specs.Bits.{decision, decisionAt, negativeAt, wordDecisions, Decidable, WordRoom, WordRead, Readable, ReadOff};
 
 // The byte of an undecided bit, and of each payload bit of a word that has one.
 const UNDECIDED: u8 = 2;
@@ -136,29 +136,31 @@ fn frozen_check(mask: &[u8], u: &[u8]) -> u8
     (most == 0) as u8
 }
 
-// The first bytes of `from`, as many as `size` says, to the front of `to`. They are bits: modulo 2 they are as they were, and
-// without it the loop would be compiled to a call, which costs a short word more.
-fn copy_bits(from: &[u8], to: &mut [u8], size: usize)
-    requires { ⌜ (size ≤ length (now from)) × (size ≤ length (now to)) × AllBits (take size (now from)) ⌝ }
+// The first bytes of `from`, as many as `size` says, to the front of `to`.
+fn copy_bytes(from: &[u8], to: &mut [u8], size: usize)
+    requires { ⌜ (size ≤ length (now from)) × (size ≤ length (now to)) ⌝ }
     ensures { λ _. ⌜ now (to .exit) ≡ over (take size (now (from .entry))) (now (to .entry)) ⌝ }
 {
     let mut i = 0;
     while i < size {
-        to[i] = from[i] % 2;
+        to[i] = from[i];
         i += 1;
     }
 }
 
-// The decoded u, to the front of u: the transform of the hard word of N bits, all decided. Here and below `stage` is the exponent of N.
-fn decoded_bits(hard: &[u8], u: &mut [u8], size: usize, stage: usize)
-    requires { ⌜ BitsRoom stage size (length (now hard)) (length (now u)) × AllBits (take size (now hard)) ⌝ }
-    ensures { λ _. ⌜ now (u .exit) ≡ over (encoding.transform stage (take size (now (hard .entry)))) (now (u .entry)) ⌝ }
+// The payload of a word of N bits that stands in the front of u, all decided; answers the frozen check. The decoded u, its transform, takes the word's
+// place. Here and below `stage` is the exponent of N.
+fn read_word(mask: &[u8], payload: &mut [u8], u: &mut [u8], size: usize, stage: usize) -> u8
+    requires { ⌜ WordRoom (now mask) stage size (length (now u)) (length (now payload)) × AllBits (take size (now u)) ⌝ }
+    ensures { λ r. ⌜ WordRead (now (mask .entry)) stage (take size (now (u .entry))) (now (payload .entry)) (now (payload .exit)) r ⌝ }
+    ensures { λ _. ⌜ now (u .exit) ≡ over (encoding.transform stage (take size (now (u .entry)))) (now (u .entry)) ⌝ }
 {
-    copy_bits(hard, u, size);
     strides(&mut u[..size], stage);
+    read_payload(mask, u, payload);
+    frozen_check(mask, u)
 }
 
-// The payload of a hard word of N bits that are all decided, through a buffer for the decoded u; answers the frozen check.
+// The same of a hard word that stays as it is, through a buffer for the decoded u.
 fn read_through(
     mask: &[u8],
     hard: &[u8],
@@ -171,14 +173,12 @@ fn read_through(
     requires { ⌜ AllBits (take size (now hard)) ⌝ }
     ensures { λ r. ⌜ WordRead (now (mask .entry)) stage (take size (now (hard .entry))) (now (payload .entry)) (now (payload .exit)) r ⌝ }
 {
-    decoded_bits(hard, u, size, stage);
-    read_payload(mask, u, payload);
-    frozen_check(mask, u)
+    copy_bytes(hard, u, size);
+    read_word(mask, payload, u, size, stage)
 }
 
-// The payload of a hard word of N bits that are all decided; answers the frozen check. A short word has a short buffer,
-// since clearing the long one would cost it more than the rest.
-fn read_decided(mask: &[u8], hard: &[u8], payload: &mut [u8], size: usize, stage: usize) -> u8
+// A word of up to 64 bits has a short buffer, since clearing the long one would cost it more than the rest.
+fn read_copied(mask: &[u8], hard: &[u8], payload: &mut [u8], size: usize, stage: usize) -> u8
     requires { ⌜ WordRoom (now mask) stage size (length (now hard)) (length (now payload)) ⌝ }
     requires { ⌜ AllBits (take size (now hard)) ⌝ }
     ensures { λ r. ⌜ WordRead (now (mask .entry)) stage (take size (now (hard .entry))) (now (payload .entry)) (now (payload .exit)) r ⌝ }
@@ -189,6 +189,21 @@ fn read_decided(mask: &[u8], hard: &[u8], payload: &mut [u8], size: usize, stage
     }
     let mut long = [0u8; 1024];
     read_through(mask, hard, payload, &mut long, size, stage)
+}
+
+// The payload of a hard word of N bits that are all decided; answers the frozen check. A word of up to 16 bits is transformed
+// where it stands and transformed back, since the transform undoes itself: that costs it less than a copy.
+fn read_decided(mask: &[u8], hard: &mut [u8], payload: &mut [u8], size: usize, stage: usize) -> u8
+    requires { ⌜ WordRoom (now mask) stage size (length (now hard)) (length (now payload)) × AllBits (take size (now hard)) ⌝ }
+    ensures { λ r. ⌜ WordRead (now (mask .entry)) stage (take size (now (hard .entry))) (now (payload .entry)) (now (payload .exit)) r ⌝ }
+    ensures { λ _. ⌜ now (hard .exit) ≡ now (hard .entry) ⌝ }
+{
+    if 16 < size {
+        return read_copied(mask, hard, payload, size, stage);
+    }
+    let check = read_word(mask, payload, hard, size, stage);
+    strides(&mut hard[..size], stage);
+    check
 }
 
 // The frozen check and the number of undecided bits.

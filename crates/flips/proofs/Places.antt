@@ -1,20 +1,19 @@
--- Lists that are made place by place, and the front of a buffer changed where a word has a 1. Assumes nothing.
+-- Lists that are made place by place, or eight places at a time. Assumes nothing.
 use mathlib.Core.Path.{_≡_, refl, sym, ap, _∙_}
-use mathlib.Core.Bool.{cond}
 use mathlib.Core.List.{List, [], _∷_}
-use Prim.Native.Nat.{ℕ, zero, suc, _+_, _<_, _≤_}
+use Prim.Native.Nat.{ℕ, zero, suc, _+_, _*_, _-_, _/_, _^_, _<_, _≤_}
 use native.Mathlib.Nat.{zero-add, le-antisymm}
 use native.Mathlib.Omega.{arith}
-use lib.Dec.{eqb}
-use lib.ListN.{length, getD, take, set, length-set}
-use lib.Seq.{ext-getD, length-take-le, getD-take}
-use Rattle.model.specs.Lists.{tabulate, onOnes, over}
+use lib.IntN.{ℤ, pos}
+use lib.ListN.{length, getD, drop, set, length-set}
+use lib.Seq.{ext-getD, getD-take, getD-drop}
+use Rattle.model.specs.Lists.{part}
 use Rattle.model.specs.Encoding.{isKnownOne, knownBits}
-use Rattle.model.proofs.Lists.{bit-small, length-tabulate, getD-tabulate, length-onOnes, onOnes-at}
+use Rattle.model.proofs.Lists.{bit-small}
 use Rattle.transform.specs.Steps.{AllBits}
-use Rattle.words.specs.Words.{write}
-use Rattle.decisions.proofs.Reading.{write-front}
-use Rattle.words.proofs.Store.{write-in, write-above, length-write, store-none, store-more}
+use Rattle.transform.proofs.StrideLoop.{in-blocks}
+use Rattle.words.specs.Words.{word, write}
+use Rattle.words.proofs.Store.{write-in, length-write, store-none, store-more, store-next}
 
 -- a loop that stores place by place: the first k of n places of w are f's
 pub record Stored {A : Type 0} (w₀ w : List A) (n k : ℕ) (f : ℕ → A) : Type 0 where
@@ -33,43 +32,46 @@ module _ {A : Type 0} (z : A) where
     long = length-set w k v ∙ s .long;
   }
 
-  -- the next place is as it was
-  pub next-kept : {w₀ w : List A} {n k : ℕ} {f : ℕ → A} → Stored w₀ w n k f → getD w k z ≡ getD w₀ k z
-  next-kept {w₀} {k = k} {f = f} s = ap (λ (l : List A). getD l k z) (s .stored) ∙ write-above z w₀ 0 k f k (omega arith)
+  -- m places more
+  pub next-stored : {w₀ w v : List A} {n k : ℕ} {f : ℕ → A} (m : ℕ) → Stored w₀ w n k f → k + m ≤ n → v ≡ write w k m (λ j. f (k + j)) → Stored w₀ v n (k + m) f
+  next-stored {w₀} {w} {v} {n} {k} {f} m s room e = record {
+    few = room;
+    stored = e ∙ ap (λ (i : ℕ). write w i m (λ j. f (k + j))) (sym (zero-add k)) ∙ store-next z w₀ w 0 k m f (λ j. f (k + j)) (s .stored) (λ j lt. refl);
+    long = ap length e ∙ length-write z w k m (λ j. f (k + j)) ∙ s .long;
+  }
+
+  -- n places stored
+  pub front-stored : {w₀ w : List A} {n k : ℕ} {f : ℕ → A} → Stored w₀ w n k f → n ≤ k → w ≡ write w₀ 0 n f
+  front-stored {w₀} {f = f} s done = s .stored ∙ ap (λ (i : ℕ). write w₀ 0 i f) (le-antisymm (s .few) done)
 
   -- every place stored
   pub all-stored : {w₀ w : List A} {n k : ℕ} {f : ℕ → A} → Stored w₀ w n k f → n ≤ k → length w₀ ≡ n → (v : List A) → length v ≡ n → ((j : ℕ) → j < n → f j ≡ getD v j z) → w ≡ v
   all-stored {w₀} {w} {n} {k} {f} s done ew v ev e =
-      s .stored ∙ ap (λ (i : ℕ). write w₀ 0 i f) (le-antisymm (s .few) done)
+      front-stored s done
       ∙ ext-getD z (write w₀ 0 n f) v (length-write z w₀ 0 n f ∙ ew ∙ sym ev)
       (λ j h. let lt : j < n = omega (arith, length-write z w₀ 0 n f) in
       ap (λ (i : ℕ). getD (write w₀ 0 n f) i z) (sym (zero-add j)) ∙ write-in z w₀ 0 n f j lt (omega arith) ∙ e j lt)
 
--- a value after a change where the word has a 1
-abbrev pub changedAt : {A : Type 0} → A → (A → A) → List ℕ → List A → ℕ → A
-changedAt z f known xs k = cond (eqb (getD known k 0) 1) (f (getD xs k z)) (getD xs k z)
-
--- the front of a buffer, changed in place
-pub front-changed : {A : Type 0} (z : A) (f : A → A) (known : List ℕ) {w₀ w : List A} {k : ℕ} → Stored w₀ w (length known) k (changedAt z f known w₀) → length known ≤ k → length known ≤ length w₀
-    → w ≡ over (onOnes f known (take (length known) w₀)) w₀
-front-changed {A} z f known {w₀} {w} {k} s done room =
-    s .stored ∙ ap (λ (i : ℕ). write w₀ 0 i (changedAt z f known w₀)) (le-antisymm (s .few) done)
-    ∙ write-front z w₀ n (changedAt z f known w₀) room ∙ ap (λ (l : List A). over l w₀) front
+-- eight positions or more are a number of eights
+pub eighths : (n size : ℕ) → 3 ≤ n → size ≡ 2 ^ n → size ≡ size / 8 * 8
+eighths n size l e = go (2 ^ (n - 3)) (in-blocks 3 n size l e)
   where
-    n : ℕ
-    n = length known
+    go : (q : ℕ) → size ≡ q * 8 → size ≡ size / 8 * 8
+    go q h = omega arith
 
-    long : length (take (length known) w₀) ≡ length known
-    long = length-take-le (length known) w₀ room
+-- eight places stored side by side
+pub eight-stored : {A : Type 0} (w : List A) (k : ℕ) (f : ℕ → A) (p₀ p₁ p₂ p₃ p₄ p₅ p₆ p₇ : A)
+    → p₀ ≡ f 0 → p₁ ≡ f 1 → p₂ ≡ f 2 → p₃ ≡ f 3 → p₄ ≡ f 4 → p₅ ≡ f 5 → p₆ ≡ f 6 → p₇ ≡ f 7
+    → set (set (set (set (set (set (set (set w k p₀) (k + 1) p₁) (k + 2) p₂) (k + 3) p₃) (k + 4) p₄) (k + 5) p₅) (k + 6) p₆) (k + 7) p₇ ≡ write w k 8 f
+unfolding write
+eight-stored {A} w k f p₀ p₁ p₂ p₃ p₄ p₅ p₆ p₇ e₀ e₁ e₂ e₃ e₄ e₅ e₆ e₇ =
+    rw (e₀, e₁, e₂, e₃, e₄, e₅, e₆, e₇)
+    (ap (λ (i : ℕ). set (set (set (set (set (set (set (set w i (f 0)) (k + 1) (f 1)) (k + 2) (f 2)) (k + 3) (f 3)) (k + 4) (f 4)) (k + 5) (f 5)) (k + 6) (f 6)) (k + 7) (f 7))
+    (let e : k ≡ k + 0 = omega arith in e))
 
-    front : tabulate (length known) (changedAt z f known w₀) ≡ onOnes f known (take (length known) w₀)
-    front =
-        ext-getD z (tabulate (length known) (changedAt z f known w₀)) (onOnes f known (take (length known) w₀))
-        (length-tabulate (length known) (changedAt z f known w₀) ∙ sym (length-onOnes f known (take (length known) w₀) ∙ long))
-        (λ j h. let lt : j < length known = omega (arith, length-tabulate (length known) (changedAt z f known w₀)) in
-        getD-tabulate (length known) (changedAt z f known w₀) j z lt
-        ∙ sym (onOnes-at f z known (take (length known) w₀) j (λ past. absurd (omega (arith, long)))
-        ∙ ap (λ (x : A). cond (eqb (getD known j 0) 1) (f x) x) (getD-take (length known) w₀ j z lt)))
+-- a word of a part
+pub part-word : (w : List ℤ) (x n k : ℕ) → k < n → word (part w x n) k ≡ word w (x + k)
+part-word w x n k lt = getD-take n (drop x w) k (pos 0) lt ∙ getD-drop x w k (pos 0)
 
 -- the frozen values are bits
 pub known-are-bits : (mask : List ℕ) → AllBits (knownBits mask)

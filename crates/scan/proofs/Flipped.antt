@@ -1,15 +1,14 @@
 -- Positions frozen to 1: LLRs negated where the word of the frozen values has a 1 give soft values that are negated back there. Assumes nothing.
 use mathlib.Core.Path.{_≡_, refl, sym, ap, _∙_, subst}
 use mathlib.Core.Bool.{Bool, true, false, cond}
-use mathlib.Core.List.{List, _++_, map}
+use mathlib.Core.List.{List, map}
 use Prim.Native.Nat.{ℕ, _*_, _+_, _^_, _≤_, _<_}
-use native.Mathlib.Nat.{zero-add}
 use native.Mathlib.Omega.{arith}
 use lib.Dec.{T, eqb}
 use lib.IntN.{ℤ, pos, negℤ, natAbs}
-use lib.ListN.{length, getD, take, drop, length-map, take-append-drop}
-use lib.Seq.{length-take-le}
-use Rattle.model.specs.Lists.{tabulate, atMost, onOnes, over}
+use lib.ListN.{length, getD, drop, length-map, length-drop, List·getD-map}
+use lib.Seq.{ext-getD, length-take-le}
+use Rattle.model.specs.Lists.{tabulate, atMost, onOnes, over, part}
 use Rattle.model.specs.Soft.{Soft, finite, softZero, _at_, wordOf, maxLlr}
 use Rattle.model.specs.Encoding.{knownWord, frozenToZero}
 use Rattle.model.specs.Scan.{scan}
@@ -20,27 +19,15 @@ use Rattle.model.proofs.FrozenPositions.{toZero-same}
 use Rattle.model.proofs.KnownOnes.{plain-word}
 use Rattle.model.proofs.Flips.{length-soft}
 use Rattle.model.proofs.Theorems.{words-ones}
-use Rattle.words.specs.Words.{Word, word, write, stored}
+use Rattle.words.specs.Words.{Word, Words, word, write, stored}
 use Rattle.words.proofs.Laws.{word-in}
-use Rattle.decisions.proofs.Reading.{take-over, drop-over, write-front}
+use Rattle.words.proofs.Store.{write-ext}
+use Rattle.decisions.proofs.Reading.{write-front}
+use Rattle.flips.proofs.Places.{part-word}
 use Rattle.scan.specs.Space.{Decodable, FrozenWord, flippedIf, llrsLoaded}
-use Rattle.scan.proofs.Keep.{stored-at}
 use Rattle.scan.proofs.Rounds.{tabulate-map, small-list}
 
 -- ---- the front of a buffer
--- overwritten by itself
-pub over-same : {A : Type 0} (n : ℕ) (l : List A) → n ≤ length l → l ≡ over (take n l) l
-unfolding over
-over-same {A} n l h = sym (ap (λ (k : ℕ). take n l ++ drop k l) (length-take-le n l h) ∙ take-append-drop n l)
-
--- a change of the overwritten front is a change of what was written
-over-changed : {A : Type 0} (f : List A → List A) (new old : List A) (n : ℕ) → length new ≡ n → length (f new) ≡ n → over (f (take n (over new old))) (over new old) ≡ over (f new) old
-unfolding over
-over-changed {A} f new old n e e′ =
-    ap (λ (l : List A). over (f l) (over new old)) (take-over new old n e)
-    ∙ ap (λ (k : ℕ). f new ++ drop k (over new old)) e′ ∙ ap (λ (l : List A). f new ++ l) (drop-over new old n e)
-    ∙ ap (λ (k : ℕ). f new ++ drop k old) (sym e′)
-
 -- overwritten by soft values
 pub stored-front : (w : List ℤ) (n : ℕ) (M : List Soft) → length M ≡ n → n ≤ length w → stored w 0 n M ≡ over (map wordOf M) w
 stored-front w n M e h =
@@ -93,28 +80,35 @@ module _ {plan mask : List ℕ} {llrs : List ℤ} {count N t words : ℕ} (out :
   abbrev plainSoft : List Soft
   plainSoft = scan t (frozenToZero mask) (map finite used) count
 
-  -- their words are not the least number, so they can be negated
-  pub soft-words : (o : List ℤ) → o ≡ stored out 0 N plainSoft → (j : ℕ) → j < N → Word (word o j)
-  soft-words o e j lt =
-      subst Word (sym (ap (word o) (sym (zero-add j)) ∙ stored-at out o 0 N (λ k. wordOf (plainSoft at k)) j e lt (omega (arith, can .answer))))
-      (word-in false limit (plainSoft at j) (omega arith) (soft-limited (flipped-can can (knownWord t mask)) j lt))
+  -- the root's message after the sweeps
+  module _ (w₂ : List ℤ) (root : (k : ℕ) → k < N → word w₂ (t * N + k) ≡ wordOf (plainSoft at k)) where
+    -- its words are not the least number, so they can be negated
+    pub root-words : (n : ℕ) → n ≡ N → Words w₂ (t * N) n
+    root-words n e j lt =
+        let h : j < N = omega arith in
+        subst Word (sym (root j h)) (word-in false limit (plainSoft at j) (omega arith) (soft-limited (flipped-can can (knownWord t mask)) j h))
+
+    root-part : length (part w₂ (t * N) N) ≡ N → part w₂ (t * N) N ≡ map wordOf plainSoft
+    root-part long =
+        ext-getD (pos 0) (part w₂ (t * N) N) (map wordOf plainSoft) (long ∙ sym (length-map plainSoft wordOf ∙ length-soft t (frozenToZero mask) (map finite used) count ∙ sym (can .size)))
+        (λ j h. let lt : j < N = omega (arith, long) in part-word w₂ (t * N) N j lt ∙ root j lt ∙ sym (List·getD-map wordOf plainSoft j softZero))
+
+    pub unloaded : {ones : Bool} {known : List ℕ} → FrozenWord mask t ones known → t * N + N ≤ length w₂
+        → (o : List ℤ) → o ≡ write out 0 (length known) (word (flippedIf ones known (part w₂ (t * N) (length known)))) → o ≡ stored out 0 N (scan t mask (map finite llrs) count)
+    unloaded {ones} {known} frozen room o e =
+        e ∙ ap (λ (n : ℕ). write out 0 n (word (flippedIf ones known (part w₂ (t * N) n)))) (frozen .long ∙ can .positions)
+        ∙ ap (λ (xs : List ℤ). write out 0 N (word xs)) (
+        flipped-is mask t ones known frozen (part w₂ (t * N) N) ∙ ap (onOnes negℤ (knownWord t mask)) (root-part long) ∙ sym (words-ones t mask llrs count))
+        ∙ write-ext (pos 0) out 0 N (word (map wordOf S)) (λ k. wordOf (S at k)) (λ k lt. List·getD-map wordOf S k softZero)
+      where
+        S : List Soft
+        S = scan t mask (map finite llrs) count
+
+        long : length (part w₂ (t * N) N) ≡ N
+        long = length-take-le N (drop (t * N) w₂) (omega (arith, length-drop (t * N) w₂, room))
 
   module _ {ones : Bool} {known : List ℕ} (frozen : FrozenWord mask t ones known) where
     pub loaded-is : (w w₁ : List ℤ) → w₁ ≡ write w (N * (t + 1)) (length llrs) (word (flippedIf ones known llrs)) → w₁ ≡ llrsLoaded N t used w
     loaded-is w w₁ e =
         e ∙ ap (λ (xs : List ℤ). write w (N * (t + 1)) (length llrs) (word xs)) (flipped-is mask t ones known frozen llrs)
         ∙ ap (λ (n : ℕ). write w (N * (t + 1)) n (word used)) (sym (length-onOnes negℤ (knownWord t mask) llrs))
-
-    pub flipped-back : (o v : List ℤ) → o ≡ stored out 0 N plainSoft → v ≡ over (flippedIf ones known (take (length known) o)) o → v ≡ stored out 0 N (scan t mask (map finite llrs) count)
-    flipped-back o v e q =
-        q ∙ ap (λ (l : List ℤ). over l o) (flipped-is mask t ones known frozen (take (length known) o))
-        ∙ ap (λ (l : List ℤ). over (onOnes negℤ (knownWord t mask) (take (length known) l)) l) (e ∙ stored-front out N plainSoft (sized (frozenToZero mask) used) (can .answer))
-        ∙ over-changed (onOnes negℤ (knownWord t mask)) (map wordOf plainSoft) out (length known) long (length-onOnes negℤ (knownWord t mask) (map wordOf plainSoft) ∙ long)
-        ∙ ap (λ (l : List ℤ). over l out) (sym (words-ones t mask llrs count))
-        ∙ sym (stored-front out N (scan t mask (map finite llrs) count) (sized mask llrs) (can .answer))
-      where
-        sized : (m : List ℕ) (l : List ℤ) → length (scan t m (map finite l) count) ≡ N
-        sized m l = length-soft t m (map finite l) count ∙ sym (can .size)
-
-        long : length (map wordOf plainSoft) ≡ length known
-        long = length-map plainSoft wordOf ∙ sized (frozenToZero mask) used ∙ sym (frozen .long ∙ can .positions)

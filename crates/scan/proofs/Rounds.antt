@@ -193,11 +193,11 @@ module _ (plan mask : List ℕ) (llrs : List ℤ) (count N t : ℕ) (out w w₁ 
         ∙ ap message (s .tree ∙ ap (λ (L : List Soft). sweeps (λ X. walk plan t 1 (frozenToZero mask) X L) count (begun true plan t 1 (frozenToZero mask) (treeAt N w₁ t 0))) loaded)
         ∙ soft-from t plan (frozenToZero mask) (allowed-alike t plan mask (can .allowed)) (map finite llrs) (llrs-finite t llrs) count (begun true plan t 1 (frozenToZero mask) (treeAt N w₁ t 0)) (overlaid-agrees plan t 1 (start t (frozenToZero mask)) (treeAt N w₁ t 0))
 
-    -- the soft values are those of SCAN walked to the leaves, of the mask with 1 for 2
-    pub answered : (o : List ℤ) → o ≡ write out 0 N (λ k. word w₂ (t * N + k)) → o ≡ stored out 0 N (scan t (frozenToZero mask) (map finite llrs) count)
-    answered o e = e ∙ write-ext (pos 0) out 0 N (λ k. word w₂ (t * N + k)) (λ k. wordOf (scan t (frozenToZero mask) (map finite llrs) count at k)) (λ k lt.
+    -- the root's message is that of SCAN walked to the leaves, of the mask with 1 for 2
+    pub root-word : (k : ℕ) → k < N → word w₂ (t * N + k) ≡ wordOf (scan t (frozenToZero mask) (map finite llrs) count at k)
+    root-word k lt =
         sym (word-soft (word w₂ (t * N + k)))
-        ∙ ap wordOf (ap (λ (i : ℕ). softOf (word w₂ i)) (let q : t * N + k ≡ t * N + 0 + k = omega arith in q) ∙ sym (soft-at w₂ (t * N + 0) (2 ^ t) k (omega (arith, can .size))) ∙ ap (λ (l : List Soft). l at k) answer-is))
+        ∙ ap wordOf (ap (λ (i : ℕ). softOf (word w₂ i)) (let q : t * N + k ≡ t * N + 0 + k = omega arith in q) ∙ sym (soft-at w₂ (t * N + 0) (2 ^ t) k (omega (arith, can .size))) ∙ ap (λ (l : List Soft). l at k) answer-is)
 
     -- the words lent are zero, and those past them as they were
     pub cleared : (v : List ℤ) → v ≡ write w₂ 0 (N * (t + 3)) (λ k. pos 0) → v ≡ write w 0 (N * (t + 3)) (λ k. pos 0)

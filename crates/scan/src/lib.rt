@@ -5,7 +5,7 @@ use combine::message_left_certain;
 use combine::message_of_leaves;
 use combine::message_right_zero;
 use combine::node_message;
-use flips::flip_words;
+use flips::copy_flipped;
 use flips::known_word;
 use flips::load_flipped;
 use halves::left_list;
@@ -25,17 +25,17 @@ use words::load_llrs;
 ghost use mathlib.Core.Path.{_≡_};
 ghost use Prim.Native.Nat.{ℕ, _+_, _*_, _^_, _≤_, _<_};
 ghost use lib.Dec.{T};
-ghost use lib.ListN.{length, take};
+ghost use lib.ListN.{length};
 ghost use lib.IntN.{pos, negℤ};
 ghost use mathlib.Core.List.{map};
 ghost use Rattle.model.specs.Soft.{finite, mark};
-ghost use Rattle.model.specs.Lists.{part, atMost, onOnes, over};
+ghost use Rattle.model.specs.Lists.{part, atMost, onOnes};
 ghost use Rattle.model.specs.Scan.{scan};
 ghost use Rattle.model.specs.Encoding.{isUnfrozen, knownWord};
 ghost use Rattle.model.specs.Kinds.{kindOf};
 ghost use Rattle.model.specs.Plans.{isCut};
 ghost use Rattle.messages.specs.Cut.{cutWords};
-ghost use Rattle.words.specs.Words.{word, stored, write, Holds, Word, Words};
+ghost use Rattle.words.specs.Words.{word, stored, write, Holds, Words};
 ghost use Rattle.halves.specs.Halves.{Places, Combinable, RightListAt, nodeWords};
 ghost use mathlib.Core.Bool.{true, false, cond, not, _||_};
 ghost use Rattle.scan.specs.Pairs.{pairWords};
@@ -215,14 +215,16 @@ fn load(work: &mut [i32], list: usize, llrs: &[i16], known: &[u8], ones: bool)
     }
 }
 
-// The soft values, negated back where that word has a 1.
-fn flip_back(known: &[u8], out: &mut [i32], ones: bool)
-    requires { ⌜ length (now known) ≤ length (now out) ⌝ }
-    requires { ⌜ ((k : ℕ) → k < length (now known) → Word (word (now out) k)) ⌝ }
-    ensures { λ _. ⌜ now (out .exit) ≡ over (flippedIf ones (now (known .entry)) (take (length (now (known .entry))) (now (out .entry)))) (now (out .entry)) ⌝ }
+// The words from x on as soft values at the front of `out`, negated back where that word has a 1.
+fn unload(work: &[i32], x: usize, out: &mut [i32], known: &[u8], ones: bool)
+    requires { ⌜ (x + length (now known) ≤ length (now work)) × (length (now known) ≤ length (now out)) ⌝ }
+    requires { ⌜ Words (now work) x (length (now known)) ⌝ }
+    ensures { λ _. ⌜ now (out .exit) ≡ write (now (out .entry)) 0 (length (now (known .entry))) (word (flippedIf ones (now (known .entry)) (part (now (work .entry)) x (length (now (known .entry)))))) ⌝ }
 {
     if ones {
-        flip_words(known, out);
+        copy_flipped(work, x, out, known);
+    } else {
+        copy_words(work, x, out, 0, known.len());
     }
 }
 
@@ -258,8 +260,7 @@ fn values_of(
 {
     load(work, len * (stage + 1), llrs, known, ones);
     sweeps(work, plan, mask, len, stage, count);
-    copy_words(&work[..], stage * len, out, 0, len);
-    flip_back(known, out, ones);
+    unload(&work[..], stage * len, out, known, ones);
 }
 
 // The same with room for that word, N bytes, which hold it afterwards. `ones` is false only where no position is frozen to 1.

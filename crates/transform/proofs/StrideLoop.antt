@@ -72,13 +72,14 @@ module _ (n t h count : ℕ) (l : t < n) (p : h ≡ 2 ^ t) (q : count ≡ 2 ^ (n
             ∙ add-halves-step t (count / 2) u ∙ ap (λ (x : ℕ). blocks x (count / 2) u) (sym (add-one t));
       }
 
+-- 2 ^ n bytes in blocks of 2 ^ d
+pub in-blocks : (d n size : ℕ) → d ≤ n → size ≡ 2 ^ n → size ≡ 2 ^ (n - d) * 2 ^ d
+in-blocks d n size l e = e ∙ ap (λ (x : ℕ). 2 ^ x) (let sum : n ≡ n - d + d = omega arith in sum) ∙ pow-add 2 (n - d) d
+
 -- sixteen times as many bytes as blocks
 pub sixteenths : (n size : ℕ) → 4 ≤ n → size ≡ 2 ^ n → (size ≡ size / 16 * 16) × (size / 16 ≡ 2 ^ (n - 4))
-sixteenths n size l e = go (2 ^ (n - 4)) (e ∙ ap (λ (x : ℕ). 2 ^ x) sum ∙ pow-add 2 (n - 4) 4)
+sixteenths n size l e = go (2 ^ (n - 4)) (in-blocks 4 n size l e)
   where
-    sum : n ≡ n - 4 + 4
-    sum = omega arith
-
     go : (x : ℕ) → size ≡ x * 16 → (size ≡ size / 16 * 16) × (size / 16 ≡ x)
     go x p = (omega arith, omega arith)
 

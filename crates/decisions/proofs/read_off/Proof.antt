@@ -1,7 +1,10 @@
 -- `decisions::read_off` meets its contract: the hard word, the number of its ties, and what that decides. Assumes nothing.
+use mathlib.Core.Path.{sym, subst}
+use mathlib.Core.List.{List}
+use Prim.Native.Nat.{ℕ}
 use native.Mathlib.Omega.{arith}
 use borrow.Author.Needs.{needs}
-use Rattle.decisions.specs.Bits.{decisionAt}
+use Rattle.decisions.specs.Bits.{decisionAt, wordDecisions, ReadOff}
 use Rattle.decisions.proofs.Folds.{ties-few}
 use Rattle.decisions.proofs.Reading.{signs-bits, read-undecided, read-bits}
 use Rattle.decisions.proofs.read_off.Statement.{statement}
@@ -29,15 +32,17 @@ read-decided-requires c κs =
 
 returns : tie.Need-returns
 returns c =
-    let read = c .before .before in
+    let read = c .before .before .before .before in
     let then = read .before .before .before in
     let signs = then .before .before .before in
     let start = signs .before .before .before .before .before in
     let a = start .args in
     let can = start .pre in
-    read-bits (a .mask .now) (a .llrs .now) (a .soft .now) (a .hard .now) (a .payload .now) (a .stage) (a .size) (can .room .bits) (signs .decide-signs .ensures .0)
+    subst (λ (h : List ℕ). ReadOff (a .mask .now) (a .stage) (wordDecisions (a .llrs .now) (a .soft .now) (a .size)) (a .hard .now) h (a .payload .now) (read .read-decided .last .1 .1 .0) (read .read-decided .result) 0)
+    (sym (read .read-decided .ensures .1))
+    (read-bits (a .mask .now) (a .llrs .now) (a .soft .now) (a .hard .now) (a .payload .now) (a .stage) (a .size) (can .room .bits) (signs .decide-signs .ensures .0)
     (then .if1 .taken) (signs .decide-signs .last .1 .1 .0) (signs .decide-signs .ensures .1)
-    (read .read-decided .ensures)
+    (read .read-decided .ensures .0))
 
 decide-requires : tie.Need-decide-requires
 decide-requires c κs =

@@ -11,7 +11,7 @@ strides-requires : tie.Need-strides-requires
 strides-requires c κs =
     let bits = c .before .before .before in
     let start = bits .before .before .before .before in
-    (bits .known-bits .kept .1 .0 ∙ start .pre .0 ∙ start .pre .1, subst AllBits (sym (bits .known-bits .ensures)) (known-are-bits (start .args .mask .now)))
+    (bits .frozen-values .kept .1 .0 ∙ start .pre .0 ∙ start .pre .1, subst AllBits (sym (bits .frozen-values .ensures)) (known-are-bits (start .args .mask .now)))
 
 returns : tie.Need-returns
 unfolding knownWord
@@ -19,7 +19,7 @@ returns c =
     let turned = c .before .before in
     let bits = turned .before .before .before .before in
     let start = bits .before .before .before .before in
-    turned .strides .ensures ∙ ap (transform (start .args .n)) (bits .known-bits .ensures)
+    turned .strides .ensures ∙ ap (transform (start .args .n)) (bits .frozen-values .ensures)
 
 pub known-word-spec : {M : Type 1} → statement M
 known-word-spec = tie.close (tie.spec (λ c κs. search needs) strides-requires (λ c. search needs) returns)

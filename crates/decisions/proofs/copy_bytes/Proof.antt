@@ -1,19 +1,15 @@
--- `decisions::copy_bits` meets its contract. The loop's invariant: the first i bits are copied. Assumes nothing.
-use mathlib.Core.Path.{_≡_, refl, sym, ap, ap₂, _∙_, subst}
+-- `decisions::copy_bytes` meets its contract. The loop's invariant: the first i bytes are copied. Assumes nothing.
+use mathlib.Core.Path.{_≡_, refl, sym, ap, _∙_}
 use mathlib.Core.List.{List}
-use Prim.Native.Nat.{ℕ, _%_, _-_, _≤_}
+use Prim.Native.Nat.{ℕ, _-_, _≤_}
 use native.Mathlib.Omega.{arith}
 use native.Mathlib.Nat.{le-antisymm}
 use lib.ListN.{length, getD, set, take, length-set}
-use lib.Seq.{getD-take}
 use Rattle.model.specs.Lists.{over}
 use Rattle.decisions.proofs.Buffers.{over-none, over-take}
 use borrow.Author.Needs.{needs}
-use Rattle.decisions.proofs.copy_bits.Statement.{statement}
-use Rattle.decisions.proofs.copy_bits.Tie as tie
-
-bit-kept : (b : ℕ) → b ≤ 1 → b % 2 ≡ b
-bit-kept b h = omega arith
+use Rattle.decisions.proofs.copy_bytes.Statement.{statement}
+use Rattle.decisions.proofs.copy_bytes.Tie as tie
 
 abbrev Inv-loop : tie.InvT-loop
 Inv-loop from to₀ n i₀ to i = (i ≤ n) × (to ≡ over (take i from) to₀) × (length to ≡ length to₀)
@@ -42,7 +38,7 @@ loop-again c =
     let a = l .before .args in
     let i = l .loop .i in (
       search needs,
-      ap₂ (λ (z : List ℕ) (b : ℕ). set z i b) (l .loop .inv .1) (bit-kept (getD (a .from .now) i 0) (subst (λ (b : ℕ). b ≤ 1) (getD-take (a .size) (a .from .now) i 0 (c .before .loop-test .taken)) (l .before .pre .2 i))) ∙ over-take (a .from .now) (a .to .now) i 0 (omega arith) (omega arith),
+      ap (λ (z : List ℕ). set z i (getD (a .from .now) i 0)) (l .loop .inv .1) ∙ over-take (a .from .now) (a .to .now) i 0 (omega arith) (omega arith),
       simp length-set (l .loop .inv .2),
     )
 
@@ -55,8 +51,8 @@ returns c =
     let a = l .before .args in
     l .loop .inv .1 ∙ ap (λ (n : ℕ). over (take n (a .from .now)) (a .to .now)) (le-antisymm (l .loop .inv .0) (c .loop-test .left))
 
-pub copy-bits-spec : {M : Type 1} → statement M
-copy-bits-spec =
+pub copy-bytes-spec : {M : Type 1} → statement M
+copy-bytes-spec =
     tie.close
     (tie.spec
     Inv-loop
