@@ -1,3 +1,4 @@
 pub mod Ranges
 pub mod Tests
 pub mod Answers
+pub mod OneForAll

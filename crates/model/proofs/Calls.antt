@@ -1,24 +1,29 @@
--- Request No. 9 at the level of a decode's call: the call with flipped LLRs and 1 for 2 is accepted where the call is, and its answer, flipped back, is the
--- call's. Assumes nothing.
+-- Requests No. 9 and No. 10 at the level of a decode's call: the call with flipped LLRs and 1 for 2, and the call with LLRs flipped by an encoded word, are
+-- accepted where the call is, and their answers, flipped back, are the call's. Assumes nothing.
 use mathlib.Core.Path.{_≡_, refl, sym, _∙_, ap, ap₂}
 use mathlib.Core.Bool.{Bool, true, false, cond, _&&_}
 use mathlib.Core.List.{List, [], _∷_, map}
-use Prim.Native.Nat.{ℕ, _^_}
+use Prim.Native.Nat.{ℕ, _^_, _<_}
+use native.Mathlib.Omega.{arith}
+use native.Mathlib.Decide.{decLt}
 use lib.Dec.{T, eqb, leb}
 use lib.IntN.{ℤ, negℤ, natAbs}
-use lib.ListN.{length}
+use lib.ListN.{length, getD, List·getD-eq-default}
 use Rattle.model.specs.Lists.{atMost, onOnes}
-use Rattle.model.specs.Soft.{finite, maxLlr}
-use Rattle.model.specs.Encoding.{maxMask, knownWord, frozenToZero}
-use Rattle.model.specs.Scan.{decodeScan, flipDecoded}
+use Rattle.model.specs.Soft.{finite, Finite, _at_, maxLlr}
+use Rattle.model.specs.Encoding.{maxMask, knownWord, frozenToZero, unfrozen, transform, place, encode}
+use Rattle.model.specs.Scan.{scan, decided, decodeScan, flipDecoded, FlippedBy}
+use Rattle.model.specs.Bounds.{Under, limit}
 use Rattle.model.specs.Refusals.{exponent, llrsInRange, DecodeCall, withLlrs, withZeros, decodeNumber, decodeAnswer, decodeCycles}
-use Rattle.model.proofs.Lists.{T-true, length-onOnes}
+use Rattle.model.proofs.Lists.{T-true, true-T, length-onOnes}
 use Rattle.model.proofs.FrozenPositions.{toZero-length, toZero-count, toZero-most, cuts-alike, cycles-alike}
-use Rattle.model.proofs.Refusals.{exponent-power}
+use Rattle.model.proofs.Refusals.{passes, exponent-power, llrs-small}
 use Rattle.model.proofs.Captures.{good-mask}
-use Rattle.model.proofs.Bounds.{abs-neg}
+use Rattle.model.proofs.Bounds.{abs-neg, soft-under, cap-limit, under-mono}
 use Rattle.model.proofs.Flips.{llrs-finite, flip-llrs}
+use Rattle.model.proofs.Transform.{length-transform}
 use Rattle.model.proofs.KnownOnes.{answer-known}
+use Rattle.model.proofs.ZeroWord.{ones-finite, zero-clear, zero-word-flip}
 
 -- ---- what the tests look at
 range-flip : (w : List ℕ) (llrs : List ℤ) → llrsInRange (onOnes negℤ w llrs) ≡ llrsInRange llrs
@@ -60,6 +65,26 @@ module _ (c : DecodeCall) (ok : decodeNumber c ≡ 0) where
   pub accepted-size : length (c .mask) ≡ 2 ^ n
   accepted-size = exponent-power (length (c .mask)) (accepted-mask .0) .0
 
+  -- what test 7 leaves
+  accepted-llrs : T (llrsInRange (c .llrs))
+  unfolding decodeNumber
+  accepted-llrs =
+      let one = passes 1 _ _ (λ z. omega arith) ok .1 in
+      let two = passes 2 _ _ (λ z. omega arith) one .1 in
+      let three = passes 3 _ _ (λ z. omega arith) two .1 in
+      let four = passes 4 _ _ (λ z. omega arith) three .1 in
+      let five = passes 5 _ _ (λ z. omega arith) four .1 in
+      let six = passes 6 _ _ (λ z. omega arith) five .1 in
+      true-T _ (passes 7 _ _ (λ z. omega arith) six .0)
+
+  -- a soft value of the answer is certain or within the limit
+  pub accepted-soft : (j : ℕ) → j < 2 ^ n → Under true limit (decodeAnswer c .soft at j)
+  unfolding decodeAnswer decodeScan decided
+  accepted-soft j h =
+      under-mono true (scan n (c .mask) (map finite (c .llrs)) (c .sweeps) at j)
+      (let m = cap-limit n (exponent-power (length (c .mask)) (accepted-mask .0) .1) in omega arith)
+      (soft-under true n (c .mask) (λ i l o. tt) (map finite (c .llrs)) (llrs-small n (c .llrs) accepted-llrs) (c .sweeps) j h)
+
   -- ---- the call with 1 for 2 and flipped LLRs
   abbrev known : List ℕ
   known = knownWord n (c .mask)
@@ -80,3 +105,53 @@ module _ (c : DecodeCall) (ok : decodeNumber c ≡ 0) where
   pub plain-cycles : decodeCycles c ≡ decodeCycles plain
   unfolding decodeCycles
   plain-cycles = rw (plain-number, ok, toZero-length (c .mask), cycles-alike (c .plan) n 1 (c .mask))
+
+  -- ---- the call with LLRs flipped by a word that the mask encodes when every frozen position is zero
+  module _ (payload : List ℕ) (fits : length payload ≡ unfrozen (c .mask)) (bits : T (atMost 1 payload)) where
+    abbrev sent : List ℕ
+    sent = encode n (frozenToZero (c .mask)) payload
+
+    abbrev other : DecodeCall
+    other = withLlrs (onOnes negℤ sent (c .llrs)) c
+
+    pub other-number : decodeNumber other ≡ 0
+    other-number = number-llrs sent c ∙ ok
+
+    other-answer : decodeAnswer other ≡ flipDecoded sent payload (decodeAnswer c)
+    unfolding decodeAnswer
+    other-answer =
+        ap (λ L. decodeScan n (c .mask) L (c .sweeps)) (flip-llrs sent (c .llrs))
+        ∙ zero-word-flip (c .mask) payload fits bits n accepted-size (map finite (c .llrs)) (llrs-finite n (c .llrs)) (c .sweeps)
+
+    -- a word has no ones past its end
+    pub ones-inside : (j : ℕ) → getD sent j 0 ≡ 1 → j < 2 ^ n
+    unfolding encode
+    ones-inside j e = go (decLt j (2 ^ n))
+      where
+        go : Dec (j < 2 ^ n) → j < 2 ^ n
+        go (yes h) = h
+        go (no h) =
+            let u : List ℕ = place (frozenToZero (c .mask)) payload in
+            let z : getD (transform n u) j 0 ≡ 0 = List·getD-eq-default (transform n u) 0 (rw (length-transform n u) (omega arith)) in
+            absurd (omega arith)
+
+    finite-there : (j : ℕ) → getD sent j 0 ≡ 1 → Finite (decodeAnswer c .soft at j)
+    finite-there j e =
+        unfold decodeAnswer decodeScan decided encode in
+        ones-finite n (c .mask) (place (frozenToZero (c .mask)) payload) (zero-clear (c .mask) payload fits bits) (map finite (c .llrs)) (llrs-finite n (c .llrs)) (c .sweeps) j (ones-inside j e) e
+
+    pub other-flipped : FlippedBy sent payload (decodeAnswer c) (decodeAnswer other)
+    unfolding flipDecoded
+    other-flipped =
+        record {
+          soft-negated = ap (λ d. d .soft) other-answer;
+          hard-flipped = ap (λ d. d .hard) other-answer;
+          payload-flipped = λ _. ap (λ d. d .payload) other-answer;
+          undecided-kept = ap (λ d. d .undecided) other-answer;
+          check-kept = ap (λ d. d .check) other-answer;
+          none-certain = finite-there;
+        }
+
+    pub other-cycles : decodeCycles other ≡ decodeCycles c
+    unfolding decodeCycles
+    other-cycles = rw (other-number, ok)

@@ -14,6 +14,7 @@ pub mod Flips
 pub mod Undecided
 pub mod Decisions
 pub mod KnownOnes
+pub mod ZeroWord
 pub mod KnownWords
 pub mod PlannedWalk
 pub mod FlippedWalk

@@ -15,7 +15,7 @@ use lib.Pow.{pow-mono}
 use Rattle.model.specs.Lists.{atMost, onOnes}
 use Rattle.model.specs.Soft.{Soft, finite, softZero, _at_, negate, plus, maxLlr, wordOf}
 use Rattle.model.specs.Encoding.{PlainMask, Mask, maxMask, isUnfrozen, isKnownOne, knownBits, knownWord, frozenToZero, unfrozen, place, encode}
-use Rattle.model.specs.Scan.{Tree, message, start, FiniteAll, visit, sweeps, scan, hardBit, decided, decodeScan, flipBit, flipTree, flipDecoded, SignsOf}
+use Rattle.model.specs.Scan.{Tree, message, start, FiniteAll, visit, sweeps, scan, hardBit, decided, decodeScan, flipBit, flipTree, flipDecoded, SignsOf, FlippedBy}
 use Rattle.model.specs.Plans.{oneCut, cutsOfKinds, wellCut, Allowed, leafOnly, walk, walkBy, planned, Agree, Stays, cycles, cyclesBy, plannerPlan, cutsBelow, counts, plannedBy, cutsOfKindsBy, plannerBy}
 use Rattle.model.specs.Kinds.{Kind, order, fits, kindBy, kindOf, ownCycles, kindMessage}
 use Rattle.model.specs.Orders.{former, HasAll, countsBy, cutsWith, moved}
@@ -31,7 +31,7 @@ use Rattle.model.proofs.Flips.{meet-visit, llrs-finite, flipped-finite,
 use Rattle.model.proofs.KnownOnes.{toZero-replaces, start-flip, soft-known, answer-known}
 use Rattle.model.proofs.KnownWords.{encode-known}
 use Rattle.model.proofs.FlippedWalk.{sweeps-flip, agree-flip}
-use Rattle.model.proofs.Calls.{plain-number, plain-answer, plain-cycles}
+use Rattle.model.proofs.Calls.{plain-number, plain-answer, plain-cycles, other-number, other-flipped, other-cycles}
 use Rattle.model.proofs.Paths.{wellCut-test, allowed-cuts}
 use Rattle.model.proofs.PlannedWalk.{agree-message, agree-same, agree-both, sweeps-agree, sweeps-stay}
 use Rattle.model.proofs.Cycles.{cycles-bound}
@@ -425,3 +425,12 @@ pub ones-answer : (c : DecodeCall) → decodeNumber c ≡ 0
     let d : DecodeCall = withZeros (withLlrs (onOnes negℤ w (c .llrs)) c) in
     (decodeNumber d ≡ 0) × (decodeAnswer c ≡ flipDecoded w [] (decodeAnswer d)) × (decodeCycles c ≡ decodeCycles d)
 ones-answer c ok = (plain-number c ok, plain-answer c ok, plain-cycles c ok)
+
+-- ---- 11. One word stands for all. Of an accepted call, and a word that the mask encodes when every frozen position is zero: the call with the LLRs negated
+-- where the word has a 1 is accepted too, with the same cycles. Soft values are negated there and nowhere else; decided hard bits are flipped there and, with
+-- none undecided, the payload bits where the word's payload has a 1; undecided ones and frozen check are kept. No soft value marked certain stands there.
+pub one-for-all : (c : DecodeCall) → decodeNumber c ≡ 0 → (payload : List ℕ) → length payload ≡ unfrozen (c .mask) → T (atMost 1 payload)
+    → let w : List ℕ = encode (exponent (length (c .mask))) (frozenToZero (c .mask)) payload in
+    let d : DecodeCall = withLlrs (onOnes negℤ w (c .llrs)) c in
+    (decodeNumber d ≡ 0) × FlippedBy w payload (decodeAnswer c) (decodeAnswer d) × (decodeCycles d ≡ decodeCycles c)
+one-for-all c ok payload fits bits = (other-number c ok payload fits bits, other-flipped c ok payload fits bits, other-cycles c ok payload fits bits)

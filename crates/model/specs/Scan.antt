@@ -143,6 +143,15 @@ flipDecoded word bits d =
       undecided = d .undecided;
     }
 
+-- what a second answer has of a first where the LLRs were negated at the ones of a word, which is that of a payload
+pub record FlippedBy (word payload : List ℕ) (d d′ : Decoded) : Type 0 where
+  pub soft-negated : d′ .soft ≡ onOnes negate word (d .soft)
+  pub hard-flipped : d′ .hard ≡ onOnes flipBit word (d .hard)
+  pub payload-flipped : d .undecided ≡ 0 → d′ .payload ≡ onOnes flipBit payload (d .payload)
+  pub undecided-kept : d′ .undecided ≡ d .undecided
+  pub check-kept : d′ .check ≡ d .check
+  pub none-certain : (j : ℕ) → getD word j 0 ≡ 1 → Finite (d .soft at j)
+
 -- bit 0 is sent as +1, bit 1 as -1: no LLR is zero, and an LLR is negative exactly where the word has a 1
 abbrev pub SignsOf : ℕ → List ℕ → List ℤ → Type 0
 SignsOf n word llrs = (j : ℕ) → j < 2 ^ n → (getD llrs j (pos 0) ≡ pos 0 → ⊥) × (negative (getD llrs j (pos 0)) ≡ eqb (getD word j 0) 1)
