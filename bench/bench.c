@@ -64,6 +64,7 @@ static const channel noisy = {2, 1}, clear = {6, 16};
 
 // What the calls read.
 static uint8_t mask[MAX_N], plan[2 * MAX_N], marks[MAX_N], payloads[FRAMES][MAX_N], encoded[FRAMES][MAX_N];
+static const uint8_t as_drawn[MAX_N]; // no noise is negated
 static float samples[FRAMES][MAX_N], variance;
 static int16_t llrs[FRAMES][MAX_N];
 
@@ -126,7 +127,7 @@ static void prepare(const test_case *c, channel way) {
     for (int f = 0; f < FRAMES; f++) {
         for (size_t i = 0; i < c->k; i++) payloads[f][i] = random_bits(&r) >> 63;
         if (plain_encode(mask, c->n, payloads[f], c->k, encoded[f], c->n)) fail(c, "no word");
-        transmit(&r, encoded[f], c->n, noise, samples[f]);
+        transmit(&r, encoded[f], as_drawn, c->n, noise, samples[f]);
         if (plain_samples(samples[f], c->n, marks, c->n, variance, llrs[f], c->n)) fail(c, "no LLRs");
     }
 }

@@ -38,12 +38,21 @@ void read_code(code *c, const char *path) {
 
 struct random frames_at(double ebn0_db, uint64_t seed) { return random_case(seed, (uint64_t)llround(1000 * ebn0_db)); }
 
-void make_frame(const code *c, struct random *r, double ebn0_db, frame *f) {
-    uint8_t word[MAX_N];
+static void encode(const code *c, const uint8_t *payload, uint8_t *word) {
+    if (ruznavo_encode(c->mask, c->n, payload, c->k, word, c->n)) fail("the encoder turned a payload down");
+}
+
+void make_frame(const code *c, struct random *r, double ebn0_db, sending what, frame *f) {
+    uint8_t drawn[MAX_N], sent[MAX_N], negated[MAX_N] = {0};
     for (size_t i = 0; i < c->k; i++) f->payload[i] = random_bits(r) >> 63;
-    if (ruznavo_encode(c->mask, c->n, f->payload, c->k, word, c->n)) fail("the encoder turned a payload down");
+    encode(c, f->payload, drawn);
+    if (what == ZERO) {
+        memset(f->payload, 0, c->k);
+        memcpy(negated, drawn, c->n);
+    }
+    encode(c, f->payload, sent);
     f->variance = (float)noise_variance(c->n, c->k, ebn0_db);
-    transmit(r, word, c->n, f->variance, f->samples);
+    transmit(r, sent, negated, c->n, f->variance, f->samples);
 }
 
 void make_llrs(const code *c, const frame *f, float scale, int16_t *llrs) {

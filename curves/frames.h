@@ -31,9 +31,14 @@ _Noreturn void fail(const char *what);
 // The code of a mask file, one line of digits ended by a line feed, with the planner's plan.
 void read_code(code *c, const char *path);
 
-// The frames of a code depend on the seed and on Eb/N0 only.
+// Which payloads are sent: drawn ones, or the zero payload only, with the noise negated where the word of the drawn one
+// has a 1. For the decoder both are the same link (`one-for-all` in crates/model/proofs/Theorems.antt): every count of
+// errors is equal.
+typedef enum { DRAWN, ZERO } sending;
+
+// The frames of a code depend on the seed, on Eb/N0 and on what is sent only.
 struct random frames_at(double ebn0_db, uint64_t seed);
-void make_frame(const code *c, struct random *r, double ebn0_db, frame *f);
+void make_frame(const code *c, struct random *r, double ebn0_db, sending what, frame *f);
 
 // The front end's LLRs, with the noise variance divided by `scale`: 2y / v times the scale, rounded.
 void make_llrs(const code *c, const frame *f, float scale, int16_t *llrs);

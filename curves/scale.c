@@ -71,7 +71,7 @@ int main(int word_count, char **words) {
     read_code(&c, words[1]);
     struct random r = frames_at(ebn0_db, strtoull(words[4], NULL, 10));
     for (unsigned long i = 0; i < frames; i++) {
-        make_frame(&c, &r, ebn0_db, &f);
+        make_frame(&c, &r, ebn0_db, DRAWN, &f);
         for (int s = 0; s < SCALES; s++) decode_at_scale(&tallies[s], &f, scales[s]);
         decode_unrounded(&unrounded, &f);
     }

@@ -1,5 +1,5 @@
-// Block and bit error rates over the library's C interface: random payloads, encoder, BPSK with Gaussian noise, front
-// end, decoder. On the same frames:
+// Block and bit error rates over the library's C interface: random payloads, or the zero payload only, encoder, BPSK with
+// Gaussian noise, front end, decoder. On the same frames:
 //   SC          successive cancellation, floating-point, on 2y/v, not rounded
 //   v/256, v    the library at several numbers of sweeps, its front end working with the noise variance v / 256 and v
 // In every frame, or in every so many, floating-point SCAN walked to the last leaf on the front end's LLRs must give
@@ -118,6 +118,7 @@ static int has_errors(const point *p, unsigned long wanted) {
 typedef struct {
     unsigned long least_frames, most_frames, block_errors, compare_every;
     uint64_t seed;
+    sending what;
 } settings;
 
 static int is_done(const point *p, const settings *s) {
@@ -131,7 +132,7 @@ static void simulate(point *p, const settings *s) {
     while (!is_done(p, s)) {
         int comparing = p->frames++ % s->compare_every == 0;
         p->compared += comparing;
-        make_frame(&c, &r, p->ebn0_db, &f);
+        make_frame(&c, &r, p->ebn0_db, s->what, &f);
         decode_by_sc(p, &f);
         for (int scale = 0; scale < SCALES; scale++) decode_at_scale(p, &f, scale, comparing);
         show_progress(p, 0);
@@ -197,8 +198,9 @@ static void print_heading(void) {
 }
 
 static int usage(void) {
-    fputs("usage: simulate MASK-FILE FROM:STEP:TO LEAST:MOST BLOCK-ERRORS COMPARE-EVERY SEED CSV-FILE\n"
-          "Eb/N0 in dB; frames of a point; every so many frames the library is compared with SCAN: 1 for all\n",
+    fputs("usage: simulate MASK-FILE FROM:STEP:TO LEAST:MOST BLOCK-ERRORS COMPARE-EVERY SEED CSV-FILE [zero]\n"
+          "Eb/N0 in dB; frames of a point; every so many frames the library is compared with SCAN: 1 for all\n"
+          "zero: the zero payload only, with the noise negated where a drawn word has a 1\n",
           stderr);
     return 2;
 }
@@ -218,7 +220,9 @@ static const char columns[] = "mask,n,k,ebn0_db,decoder,sweeps,frames,compared,b
 int main(int word_count, char **words) {
     double points[MAX_POINTS];
     settings s;
-    int point_count = word_count == 8 && read_settings(words + 3, &s) ? read_range(words[2], points) : 0;
+    s.what = word_count == 9 && !strcmp(words[8], "zero") ? ZERO : DRAWN;
+    int counted = word_count == (s.what == ZERO ? 9 : 8);
+    int point_count = counted && read_settings(words + 3, &s) ? read_range(words[2], points) : 0;
     if (point_count == 0) return usage();
     read_code(&c, words[1]);
     FILE *csv = fopen(words[7], "w");
