@@ -177,7 +177,8 @@ fn read_through(
     read_word(mask, payload, u, size, stage)
 }
 
-// A word of up to 64 bits has a short buffer, since clearing the long one would cost it more than the rest.
+// The same with a buffer of its own. A word of up to 64 bits has a short one, since clearing the long one would cost it
+// more than the rest.
 fn read_copied(mask: &[u8], hard: &[u8], payload: &mut [u8], size: usize, stage: usize) -> u8
     requires { ⌜ WordRoom (now mask) stage size (length (now hard)) (length (now payload)) ⌝ }
     requires { ⌜ AllBits (take size (now hard)) ⌝ }

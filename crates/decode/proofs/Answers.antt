@@ -11,7 +11,7 @@ use lib.IntN.{ℤ, pos, natAbs}
 use lib.ListN.{length, getD, drop, length-append, length-drop, List·getD-map}
 use lib.Seq.{drop-at}
 use Rattle.model.specs.Lists.{tabulate, over}
-use Rattle.model.specs.Soft.{finite, _at_, plus, wordOf, maxLlr, softOf}
+use Rattle.model.specs.Soft.{Soft, finite, softZero, _at_, plus, wordOf, maxLlr, softOf}
 use lib.Pow.{pow-mono}
 use Rattle.model.specs.Encoding.{unfrozen}
 use Rattle.model.specs.Scan.{scan, hardBit, hardWord, undecidedIn, decidedPayload, decidedCheck, decided, decodeScan}
@@ -27,12 +27,18 @@ use Rattle.words.specs.Words.{word, write, stored}
 use Rattle.words.proofs.Laws.{soft-fin, soft-word}
 use Rattle.words.proofs.Store.{write-in, length-write}
 use Rattle.scan.specs.Space.{Decodable}
-use Rattle.scan.proofs.Flipped.{stored-front}
+use Rattle.scan.proofs.Rounds.{tabulate-map}
 use Rattle.decisions.specs.Bits.{decisionAt, wordDecisions, Readable, ReadOff}
 use Rattle.decisions.proofs.Reading.{write-front}
 use Rattle.decode.specs.Calls.{lent, Given, callOf, Outcome}
 use Rattle.decode.specs.Steps.{inputNumber, Passed}
 use Rattle.model.specs.Plans as plans
+
+-- the front of a buffer, overwritten by soft values
+stored-front : (w : List ℤ) (n : ℕ) (M : List Soft) → length M ≡ n → n ≤ length w → stored w 0 n M ≡ over (map wordOf M) w
+stored-front w n M e h =
+    write-front (pos 0) w n (λ k. wordOf (M at k)) h
+    ∙ ap (λ (l : List ℤ). over l w) (ap (λ (m : ℕ). tabulate m (λ k. wordOf (M at k))) (sym e) ∙ tabulate-map wordOf M softZero)
 
 pow-above : (j : ℕ) → j < 2 ^ suc j
 pow-above zero = omega arith

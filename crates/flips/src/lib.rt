@@ -4,13 +4,12 @@ use transform::strides;
 use words::widened;
 use words::with_sign;
 ghost use mathlib.Core.Path.{_≡_};
-ghost use Prim.Native.Nat.{ℕ, _+_, _*_, _^_, _<_, _≤_};
-ghost use lib.IntN.{negℤ, natAbs};
+ghost use Prim.Native.Nat.{_+_, _*_, _^_, _≤_};
+ghost use lib.IntN.{negℤ};
 ghost use lib.ListN.{length, getD};
 ghost use Rattle.model.specs.Lists.{bit, onOnes, part};
-ghost use Rattle.model.specs.Soft.{mark};
 ghost use Rattle.model.specs.Encoding.{isKnownOne, knownBits, knownWord};
-ghost use Rattle.words.specs.Words.{word, write};
+ghost use Rattle.words.specs.Words.{Words, word, write};
 
 // The frozen values, zeros elsewhere.
 fn known_bits(mask: &[u8], bits: &mut [u8])
@@ -47,7 +46,8 @@ fn known_eight(mask: &[u8], bits: &mut [u8], k: usize)
     bits[k + 7] = h;
 }
 
-// The frozen values of `count` times eight positions. The transform reads words of eight bytes: what was stored so is there at once.
+// The frozen values of `count` times eight positions. The transform reads words of eight bytes, and a word that was stored as
+// one can be read right after; bytes that were stored one by one could not.
 fn known_eights(mask: &[u8], bits: &mut [u8], count: usize)
     requires { ⌜ (length (now mask) ≡ count * 8) × (length (now bits) ≡ length (now mask)) ⌝ }
     ensures { λ _. ⌜ now (bits .exit) ≡ knownBits (now (mask .entry)) ⌝ }
@@ -98,7 +98,7 @@ pub fn load_flipped(w: &mut [i32], m: usize, llrs: &[i16], known: &[u8])
 // out[k] = w[x + k], for each bit of the word, negated where it is 1
 pub fn copy_flipped(w: &[i32], x: usize, out: &mut [i32], known: &[u8])
     requires { ⌜ (x + length (now known) ≤ length (now w)) × (length (now known) ≤ length (now out)) ⌝ }
-    requires { ⌜ ((k : ℕ) → k < length (now known) → natAbs (word (now w) (x + k)) ≤ mark) ⌝ }
+    requires { ⌜ Words (now w) x (length (now known)) ⌝ }
     ensures { λ _. ⌜ now (out .exit) ≡ write (now (out .entry)) 0 (length (now (known .entry))) (word (onOnes negℤ (now (known .entry)) (part (now (w .entry)) x (length (now (known .entry)))))) ⌝ }
 {
     let mut k = 0;

@@ -8,7 +8,7 @@ use lib.Dec.{T, eqb}
 use lib.IntN.{ℤ, pos, negℤ, natAbs}
 use lib.ListN.{length, getD, drop, length-map, length-drop, List·getD-map}
 use lib.Seq.{ext-getD, length-take-le}
-use Rattle.model.specs.Lists.{tabulate, atMost, onOnes, over, part}
+use Rattle.model.specs.Lists.{atMost, onOnes, part}
 use Rattle.model.specs.Soft.{Soft, finite, softZero, _at_, wordOf, maxLlr}
 use Rattle.model.specs.Encoding.{knownWord, frozenToZero}
 use Rattle.model.specs.Scan.{scan}
@@ -22,17 +22,9 @@ use Rattle.model.proofs.Theorems.{words-ones}
 use Rattle.words.specs.Words.{Word, Words, word, write, stored}
 use Rattle.words.proofs.Laws.{word-in}
 use Rattle.words.proofs.Store.{write-ext}
-use Rattle.decisions.proofs.Reading.{write-front}
 use Rattle.flips.proofs.Places.{part-word}
 use Rattle.scan.specs.Space.{Decodable, FrozenWord, flippedIf, llrsLoaded}
-use Rattle.scan.proofs.Rounds.{tabulate-map, small-list}
-
--- ---- the front of a buffer
--- overwritten by soft values
-pub stored-front : (w : List ℤ) (n : ℕ) (M : List Soft) → length M ≡ n → n ≤ length w → stored w 0 n M ≡ over (map wordOf M) w
-stored-front w n M e h =
-    write-front (pos 0) w n (λ k. wordOf (M at k)) h
-    ∙ ap (λ (l : List ℤ). over l w) (ap (λ (m : ℕ). tabulate m (λ k. wordOf (M at k))) (sym e) ∙ tabulate-map wordOf M softZero)
+use Rattle.scan.proofs.Rounds.{small-list}
 
 -- ---- numbers negated where the word of the frozen values has a 1: with bytes 0 and 1 there is no such place
 flipped-is : (mask : List ℕ) (t : ℕ) (ones : Bool) (known : List ℕ) → FrozenWord mask t ones known → (xs : List ℤ) → flippedIf ones known xs ≡ onOnes negℤ (knownWord t mask) xs

@@ -25,9 +25,9 @@ use Rattle.model.proofs.PlannedWalk.{walk-stays, stays-then}
 use Rattle.model.proofs.FrozenPositions.{allowed-alike}
 use Rattle.model.proofs.Flips.{llrs-finite}
 use Rattle.model.proofs.Bounds.{ones-none, within-held, within-start}
-use Rattle.words.specs.Words.{word, soft, write, stored}
+use Rattle.words.specs.Words.{word, soft, write}
 use Rattle.words.proofs.Laws.{soft-at, word-soft, soft-fin}
-use Rattle.words.proofs.Store.{length-write, write-is, write-ext, source-above}
+use Rattle.words.proofs.Store.{length-write, write-is, source-above}
 use Rattle.scan.specs.Space.{treeAt, begun, Room, Kept, Visited, Ready, Swept, Decodable}
 use Rattle.scan.proofs.Begun.{overlaid-agrees, overlaid-held, begun-stays}
 use Rattle.scan.proofs.Keep.{row-start, tree-message, soft-cong, stored-at}

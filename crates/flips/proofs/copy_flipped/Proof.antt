@@ -1,13 +1,11 @@
 -- `flips::copy_flipped` meets its contract. The loop's invariant: the first k words are copied. Assumes nothing.
-use mathlib.Core.Path.{_≡_, refl, sym, ap, _∙_}
+use mathlib.Core.Path.{refl, sym, ap, _∙_}
 use mathlib.Core.Bool.{cond}
-use Prim.Native.Nat.{ℕ, _+_, _-_, _<_}
+use Prim.Native.Nat.{_+_, _-_, _<_}
 use lib.Dec.{eqb}
 use lib.IntN.{ℤ, pos, negℤ}
 use lib.ListN.{length, getD}
 use borrow.Author.Needs.{needs}
-use mir.Syntax.{w32}
-use mir.Val.{ofZ, toZ}
 use Rattle.model.specs.Lists.{onOnes, part}
 use Rattle.model.proofs.Lists.{onOnes-at}
 use Rattle.words.specs.Words.{word}
