@@ -1,5 +1,5 @@
 -- Request No. 10 of two calls of the decoder: one word stands for all. Assumes nothing.
-use mathlib.Core.Path.{_≡_, refl, sym, _∙_, ap, subst}
+use mathlib.Core.Path.{_≡_, sym, _∙_, ap, subst}
 use mathlib.Core.Bool.{Bool, true, cond}
 use mathlib.Core.List.{List, map}
 use Prim.Native.Nat.{ℕ, _^_, _<_}
@@ -7,10 +7,10 @@ use native.Mathlib.Omega.{arith}
 use borrow.Author.Tests.{eq-eqb}
 use lib.Dec.{T, eqb}
 use lib.IntN.{ℤ, pos, negℤ, natAbs}
-use lib.ListN.{length, getD, take, length-map, List·getD-map}
+use lib.ListN.{length, take, length-map, List·getD-map}
 use lib.Seq.{getD-take}
 use Rattle.model.specs.Lists.{atMost, onOnes, over}
-use Rattle.model.specs.Soft.{Soft, finite, certain, certainOne, Finite, softZero, _at_, wordOf, mark}
+use Rattle.model.specs.Soft.{Soft, finite, Finite, softZero, _at_, wordOf, mark}
 use Rattle.model.specs.Encoding.{unfrozen, frozenToZero, encode}
 use Rattle.model.specs.Scan.{Decoded, flipBit, hardWord, scan, decided, decodeScan, FlippedBy}
 use Rattle.model.specs.Bounds.{Under, limit}
@@ -89,30 +89,29 @@ module _ (g : Given) (e : Ended) (ends : Ends g e) (ok : decodeNumber (callOf g)
 
 -- ---- two calls
 module _ (g : Given) (bits : List ℕ) (fits : length bits ≡ unfrozen (g .mask)) (clean : T (atMost 1 bits)) where
-  abbrev pub sent : List ℕ
-  sent = encode (exponent (length (g .mask))) (frozenToZero (g .mask)) bits
+  abbrev pub codeword : List ℕ
+  codeword = encode (exponent (length (g .mask))) (frozenToZero (g .mask)) bits
 
   -- Of an accepted call, and a word that the mask encodes when every frozen position is zero: whatever both calls' buffers held before, the call with the LLRs
   -- negated where the word has a 1 answers and leaves what `NegatedBy` says.
   pub one-for-all-calls : (buffers : Lent) → SameRoom (g .buffers) buffers → (first second : Ended) → first .number ≡ 0
-      → Ends g first → Ends (negatedCall sent buffers g) second → NegatedBy sent bits g first second
+      → Ends g first → Ends (negatedCall codeword buffers g) second → NegatedBy codeword bits g first second
   one-for-all-calls buffers room first second ok one two =
       let c : DecodeCall = callOf g in
-      let g′ : Given = negatedCall sent buffers g in
+      let g′ : Given = negatedCall codeword buffers g in
       let z : decodeNumber c ≡ 0 = sym (one .number-is) ∙ ok in
       let said = one-for-all c z bits fits clean in
-      let same : callOf g′ ≡ withLlrs (onOnes negℤ sent (g .llrs)) c = rw (room .soft, room .hard, room .payload, room .work) in
+      let same : callOf g′ ≡ withLlrs (onOnes negℤ codeword (g .llrs)) c = rw (room .soft, room .hard, room .payload, room .work) in
       let z′ : decodeNumber (callOf g′) ≡ 0 = ap decodeNumber same ∙ said .0 in
-      let f : FlippedBy sent bits (decodeAnswer c) (decodeAnswer (callOf g′)) = subst (λ x. FlippedBy sent bits (decodeAnswer c) (decodeAnswer x)) (sym same) (said .1) in
+      let f : FlippedBy codeword bits (decodeAnswer c) (decodeAnswer (callOf g′)) = subst (λ x. FlippedBy codeword bits (decodeAnswer c) (decodeAnswer x)) (sym same) (said .1) in
       record {
         accepted = two .number-is ∙ z′;
         soft-negated =
-            soft-front g′ second two z′ ∙ ap (map wordOf) (f .soft-negated) ∙ flip-words sent (decodeAnswer c .soft)
-            ∙ ap (onOnes negℤ sent) (sym (soft-front g first one z));
-        hard-flipped = hard-front g′ second two z′ ∙ f .hard-flipped ∙ ap (onOnes flipBit sent) (sym (hard-front g first one z));
+            soft-front g′ second two z′ ∙ ap (map wordOf) (f .soft-negated) ∙ flip-words codeword (decodeAnswer c .soft)
+            ∙ ap (onOnes negℤ codeword) (sym (soft-front g first one z));
+        hard-flipped = hard-front g′ second two z′ ∙ f .hard-flipped ∙ ap (onOnes flipBit codeword) (sym (hard-front g first one z));
         payload-flipped =
-            λ none. payload-front g′ second two z′ ∙ f .payload-flipped (sym (undecided-answered g first one z) ∙ none)
-            ∙ ap (onOnes flipBit bits) (sym (payload-front g first one z));
+            payload-front g′ second two z′ ∙ f .payload-flipped ∙ ap (onOnes flipBit bits) (sym (payload-front g first one z));
         undecided-kept = undecided-answered g′ second two z′ ∙ f .undecided-kept ∙ sym (undecided-answered g first one z);
         cycles-kept = two .cycles-is ∙ ap decodeCycles same ∙ said .2 ∙ sym (one .cycles-is);
         check-kept = check-answered g′ second two z′ ∙ f .check-kept ∙ sym (check-answered g first one z);

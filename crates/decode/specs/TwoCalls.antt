@@ -30,18 +30,17 @@ pub record SameRoom (a b : Lent) : Type 0 where
   pub payload : length (b .payload) ≡ length (a .payload)
   pub work : length (b .work) ≡ length (a .work)
 
--- a call with the LLRs negated where a word has a 1, and with buffers of its own
+-- a call with the LLRs negated where a codeword has a 1, and with buffers of its own
 abbrev pub negatedCall : List ℕ → Lent → Given → Given
-negatedCall sent buffers g = given (g .mask) (g .plan) (g .sweeps) (onOnes negℤ sent (g .llrs)) buffers
+negatedCall codeword buffers g = given (g .mask) (g .plan) (g .sweeps) (onOnes negℤ codeword (g .llrs)) buffers
 
--- what that call answers and leaves, beside the first: `sent` is the word of `bits`
-pub record NegatedBy (sent bits : List ℕ) (g : Given) (first second : Ended) : Type 0 where
+-- what that call answers and leaves, beside the first: `codeword` is the word of `bits`
+pub record NegatedBy (codeword bits : List ℕ) (g : Given) (first second : Ended) : Type 0 where
   pub accepted : second .number ≡ 0
-  pub soft-negated : take (length (g .mask)) (second .buffers .soft) ≡ onOnes negℤ sent (take (length (g .mask)) (first .buffers .soft))
-  pub hard-flipped : take (length (g .mask)) (second .buffers .hard) ≡ onOnes flipBit sent (take (length (g .mask)) (first .buffers .hard))
-  pub payload-flipped : first .undecided ≡ 0
-      → take (unfrozen (g .mask)) (second .buffers .payload) ≡ onOnes flipBit bits (take (unfrozen (g .mask)) (first .buffers .payload))
+  pub soft-negated : take (length (g .mask)) (second .buffers .soft) ≡ onOnes negℤ codeword (take (length (g .mask)) (first .buffers .soft))
+  pub hard-flipped : take (length (g .mask)) (second .buffers .hard) ≡ onOnes flipBit codeword (take (length (g .mask)) (first .buffers .hard))
+  pub payload-flipped : take (unfrozen (g .mask)) (second .buffers .payload) ≡ onOnes flipBit bits (take (unfrozen (g .mask)) (first .buffers .payload))
   pub undecided-kept : second .undecided ≡ first .undecided
   pub cycles-kept : second .cycles ≡ first .cycles
   pub check-kept : second .check ≡ first .check
-  pub none-certain : (j : ℕ) → getD sent j 0 ≡ 1 → natAbs (word (first .buffers .soft) j) < mark
+  pub none-certain : (j : ℕ) → getD codeword j 0 ≡ 1 → natAbs (word (first .buffers .soft) j) < mark

@@ -23,7 +23,7 @@ use Rattle.model.proofs.Bounds.{abs-neg, soft-under, cap-limit, under-m
 use Rattle.model.proofs.Flips.{llrs-finite, flip-llrs}
 use Rattle.model.proofs.Transform.{length-transform}
 use Rattle.model.proofs.KnownOnes.{answer-known}
-use Rattle.model.proofs.ZeroWord.{ones-finite, zero-clear, zero-word-flip}
+use Rattle.model.proofs.PlainWord.{ones-finite, plain-clear, plain-flip}
 
 -- ---- what the tests look at
 range-flip : (w : List ℕ) (llrs : List ℤ) → llrsInRange (onOnes negℤ w llrs) ≡ llrsInRange llrs
@@ -108,23 +108,23 @@ module _ (c : DecodeCall) (ok : decodeNumber c ≡ 0) where
 
   -- ---- the call with LLRs flipped by a word that the mask encodes when every frozen position is zero
   module _ (payload : List ℕ) (fits : length payload ≡ unfrozen (c .mask)) (bits : T (atMost 1 payload)) where
-    abbrev sent : List ℕ
-    sent = encode n (frozenToZero (c .mask)) payload
+    abbrev codeword : List ℕ
+    codeword = encode n (frozenToZero (c .mask)) payload
 
     abbrev other : DecodeCall
-    other = withLlrs (onOnes negℤ sent (c .llrs)) c
+    other = withLlrs (onOnes negℤ codeword (c .llrs)) c
 
     pub other-number : decodeNumber other ≡ 0
-    other-number = number-llrs sent c ∙ ok
+    other-number = number-llrs codeword c ∙ ok
 
-    other-answer : decodeAnswer other ≡ flipDecoded sent payload (decodeAnswer c)
+    other-answer : decodeAnswer other ≡ flipDecoded codeword payload (decodeAnswer c)
     unfolding decodeAnswer
     other-answer =
-        ap (λ L. decodeScan n (c .mask) L (c .sweeps)) (flip-llrs sent (c .llrs))
-        ∙ zero-word-flip (c .mask) payload fits bits n accepted-size (map finite (c .llrs)) (llrs-finite n (c .llrs)) (c .sweeps)
+        ap (λ L. decodeScan n (c .mask) L (c .sweeps)) (flip-llrs codeword (c .llrs))
+        ∙ plain-flip (c .mask) payload fits bits n accepted-size (map finite (c .llrs)) (llrs-finite n (c .llrs)) (c .sweeps)
 
     -- a word has no ones past its end
-    pub ones-inside : (j : ℕ) → getD sent j 0 ≡ 1 → j < 2 ^ n
+    pub ones-inside : (j : ℕ) → getD codeword j 0 ≡ 1 → j < 2 ^ n
     unfolding encode
     ones-inside j e = go (decLt j (2 ^ n))
       where
@@ -135,18 +135,18 @@ module _ (c : DecodeCall) (ok : decodeNumber c ≡ 0) where
             let z : getD (transform n u) j 0 ≡ 0 = List·getD-eq-default (transform n u) 0 (rw (length-transform n u) (omega arith)) in
             absurd (omega arith)
 
-    finite-there : (j : ℕ) → getD sent j 0 ≡ 1 → Finite (decodeAnswer c .soft at j)
+    finite-there : (j : ℕ) → getD codeword j 0 ≡ 1 → Finite (decodeAnswer c .soft at j)
     finite-there j e =
         unfold decodeAnswer decodeScan decided encode in
-        ones-finite n (c .mask) (place (frozenToZero (c .mask)) payload) (zero-clear (c .mask) payload fits bits) (map finite (c .llrs)) (llrs-finite n (c .llrs)) (c .sweeps) j (ones-inside j e) e
+        ones-finite n (c .mask) (place (frozenToZero (c .mask)) payload) (plain-clear (c .mask) payload fits bits) (map finite (c .llrs)) (llrs-finite n (c .llrs)) (c .sweeps) j (ones-inside j e) e
 
-    pub other-flipped : FlippedBy sent payload (decodeAnswer c) (decodeAnswer other)
+    pub other-flipped : FlippedBy codeword payload (decodeAnswer c) (decodeAnswer other)
     unfolding flipDecoded
     other-flipped =
         record {
           soft-negated = ap (λ d. d .soft) other-answer;
           hard-flipped = ap (λ d. d .hard) other-answer;
-          payload-flipped = λ _. ap (λ d. d .payload) other-answer;
+          payload-flipped = ap (λ d. d .payload) other-answer;
           undecided-kept = ap (λ d. d .undecided) other-answer;
           check-kept = ap (λ d. d .check) other-answer;
           none-certain = finite-there;

@@ -14,7 +14,7 @@ pub mod Flips
 pub mod Undecided
 pub mod Decisions
 pub mod KnownOnes
-pub mod ZeroWord
+pub mod PlainWord
 pub mod KnownWords
 pub mod PlannedWalk
 pub mod FlippedWalk

@@ -2,15 +2,15 @@
 use mathlib.Core.Path.{_≡_, refl, sym, _∙_, ap}
 use mathlib.Core.Bool.{Bool, true, false, cond}
 use mathlib.Core.List.{List, [], _∷_}
-use Prim.Native.Nat.{ℕ, _^_, _<_, _≤_}
+use Prim.Native.Nat.{ℕ, zero, suc, _^_, _<_, _≤_}
 use native.Mathlib.Omega.{arith}
-use lib.Dec.{T, eqb}
-use lib.ListN.{getD, length, drop}
+use lib.Dec.{T, eqb, leb, leb→le}
+use lib.ListN.{getD, length, drop, replicate}
 use Rattle.model.specs.Lists.{atMost, bit, onOnes}
 use Rattle.model.specs.Soft.{Soft, certain, certainOne, Finite, softZero, _at_, negate, box, differ}
 use Rattle.model.specs.Encoding.{_⊕_, transform, isUnfrozen, isKnownOne, knownBits, frozenToZero, unfrozen, place, payloadOf, encode}
-use Rattle.model.specs.Scan.{FiniteAll, leafValue, scan, decodeScan, flipDecoded}
-use Rattle.model.proofs.Lists.{absurd-bool, bit-small}
+use Rattle.model.specs.Scan.{FiniteAll, leafValue, scan, decodeScan, flipBit, flipDecoded}
+use Rattle.model.proofs.Lists.{absurd-bool, and-l, and-r, bit-small, onOnes-twice}
 use Rattle.model.proofs.Algebra.{box-comm}
 use Rattle.model.proofs.Payload.{place-back, place-clean, place-bits}
 use Rattle.model.proofs.TwoRuns.{minus, Rel, Laws, soft-paired}
@@ -61,40 +61,63 @@ ones-finite n mask u C L F k j h e =
     (sym (word-sign n u j h) ∙ ap (λ (b : ℕ). eqb b 1) e)
 
 -- ---- the flipped answer
-module _ (mask payload : List ℕ) (fits : length payload ≡ unfrozen mask) (bits : T (atMost 1 payload)) where
-  abbrev pub zeroPlace : List ℕ
-  zeroPlace = place (frozenToZero mask) payload
+payload-alike : (mask u : List ℕ) → payloadOf (frozenToZero mask) u ≡ payloadOf mask u
+unfolding payloadOf frozenToZero
+payload-alike [] u = refl
+payload-alike (m ∷ mask) u = rw (toZero-unfrozen m, payload-alike mask (drop 1 u))
 
-  pub zero-clear : Clear mask zeroPlace
-  zero-clear k e =
+module _ (mask payload : List ℕ) (fits : length payload ≡ unfrozen mask) (bits : T (atMost 1 payload)) where
+  abbrev plainPlace : List ℕ
+  plainPlace = place (frozenToZero mask) payload
+
+  pub plain-clear : Clear mask plainPlace
+  plain-clear k e =
       place-clean (frozenToZero mask) payload k (ap isUnfrozen (toZero-at mask k) ∙ toZero-unfrozen (getD mask k 0) ∙ e)
       ∙ ap bit (toZero-plain mask k)
 
-  zero-shifted : Shifted zeroPlace mask mask
-  zero-shifted =
+  plain-shifted : Shifted plainPlace mask mask
+  plain-shifted =
       record {
         sized = refl;
         bits = place-bits (frozenToZero mask) payload bits;
         alike = λ k. refl;
-        known = λ k e. same (bit (isKnownOne (getD mask k 0))) (getD zeroPlace k 0) (bit-small (isKnownOne (getD mask k 0))) (zero-clear k e);
+        known = λ k e. same (bit (isKnownOne (getD mask k 0))) (getD plainPlace k 0) (bit-small (isKnownOne (getD mask k 0))) (plain-clear k e);
       }
     where
       same : (a b : ℕ) → a ≤ 1 → b ≡ 0 → a ≡ a ⊕ b
       same a b h e = omega arith
 
-  payload-alike : (mask u : List ℕ) → payloadOf (frozenToZero mask) u ≡ payloadOf mask u
-  unfolding payloadOf frozenToZero
-  payload-alike [] u = refl
-  payload-alike (m ∷ mask) u = rw (toZero-unfrozen m, payload-alike mask (drop 1 u))
+  plain-payload : payloadOf mask plainPlace ≡ payload
+  plain-payload =
+      sym (payload-alike mask plainPlace) ∙ place-back (frozenToZero mask) payload (fits ∙ sym (unfrozen-same (knownBits mask) mask (frozenToZero mask) (known-shifted mask)))
 
-  zero-payload : payloadOf mask zeroPlace ≡ payload
-  zero-payload =
-      sym (payload-alike mask zeroPlace) ∙ place-back (frozenToZero mask) payload (fits ∙ sym (unfrozen-same (knownBits mask) mask (frozenToZero mask) (known-shifted mask)))
-
-  pub zero-word-flip : (n : ℕ) → length mask ≡ 2 ^ n → (L : List Soft) → FiniteAll n L → (k : ℕ)
+  pub plain-flip : (n : ℕ) → length mask ≡ 2 ^ n → (L : List Soft) → FiniteAll n L → (k : ℕ)
       → decodeScan n mask (onOnes negate (encode n (frozenToZero mask) payload) L) k
       ≡ flipDecoded (encode n (frozenToZero mask) payload) payload (decodeScan n mask L k)
   unfolding encode
-  zero-word-flip n sized L F k =
-      decode-flip n zeroPlace mask mask zero-shifted sized L F k
-      ∙ ap (λ p. flipDecoded (transform n zeroPlace) p (decodeScan n mask L k)) zero-payload
+  plain-flip n sized L F k =
+      decode-flip n plainPlace mask mask plain-shifted sized L F k
+      ∙ ap (λ p. flipDecoded (transform n plainPlace) p (decodeScan n mask L k)) plain-payload
+
+-- ---- a payload that is right, and zeros
+flip-twice : (b : ℕ) → flipBit (flipBit b) ≡ b
+flip-twice zero = refl
+flip-twice (suc zero) = refl
+flip-twice (suc (suc b)) = refl
+
+-- zeros flipped where a payload has a 1 are that payload
+flip-zeros : (p : List ℕ) → T (atMost 1 p) → onOnes flipBit p (replicate (length p) 0) ≡ p
+unfolding onOnes atMost
+flip-zeros [] t = refl
+flip-zeros (zero ∷ p) t = ap (λ (l : List ℕ). zero ∷ l) (flip-zeros p (and-r (leb 0 1) (atMost 1 p) t))
+flip-zeros (suc zero ∷ p) t = ap (λ (l : List ℕ). suc zero ∷ l) (flip-zeros p (and-r (leb 1 1) (atMost 1 p) t))
+flip-zeros (suc (suc b) ∷ p) t = let l : suc (suc b) ≤ 1 = leb→le (suc (suc b)) 1 (and-l (leb (suc (suc b)) 1) (atMost 1 p) t) in absurd (omega arith)
+
+pub right-exactly : (p d d′ : List ℕ) → T (atMost 1 p) → d′ ≡ onOnes flipBit p d → (d ≡ p → d′ ≡ replicate (length p) 0) × (d′ ≡ replicate (length p) 0 → d ≡ p)
+right-exactly p d d′ t e = (there, back)
+  where
+    there : d ≡ p → d′ ≡ replicate (length p) 0
+    there q = e ∙ ap (onOnes flipBit p) (q ∙ sym (flip-zeros p t)) ∙ onOnes-twice flipBit flip-twice p (replicate (length p) 0)
+
+    back : d′ ≡ replicate (length p) 0 → d ≡ p
+    back q = sym (onOnes-twice flipBit flip-twice p d) ∙ ap (onOnes flipBit p) (sym e ∙ q) ∙ flip-zeros p t

@@ -10,7 +10,7 @@ use native.Mathlib.Omega.{arith}
 use lib.Count.{ones}
 use lib.Dec.{T}
 use lib.IntN.{ℤ, negℤ}
-use lib.ListN.{length, getD}
+use lib.ListN.{length, getD, replicate}
 use lib.Pow.{pow-mono}
 use Rattle.model.specs.Lists.{atMost, onOnes}
 use Rattle.model.specs.Soft.{Soft, finite, softZero, _at_, negate, plus, maxLlr, wordOf}
@@ -30,6 +30,7 @@ use Rattle.model.proofs.Shortcuts.{sound-start}
 use Rattle.model.proofs.Flips.{meet-visit, llrs-finite, flipped-finite, flip-llrs, flip-words}
 use Rattle.model.proofs.KnownOnes.{toZero-replaces, start-flip, soft-known, answer-known}
 use Rattle.model.proofs.KnownWords.{encode-known}
+use Rattle.model.proofs.PlainWord.{right-exactly}
 use Rattle.model.proofs.FlippedWalk.{sweeps-flip, agree-flip}
 use Rattle.model.proofs.Calls.{plain-number, plain-answer, plain-cycles, other-number, other-flipped, other-cycles}
 use Rattle.model.proofs.Paths.{wellCut-test, allowed-cuts}
@@ -426,7 +427,7 @@ pub ones-answer : (c : DecodeCall) → decodeNumber c ≡ 0
     (decodeNumber d ≡ 0) × (decodeAnswer c ≡ flipDecoded w [] (decodeAnswer d)) × (decodeCycles c ≡ decodeCycles d)
 ones-answer c ok = (plain-number c ok, plain-answer c ok, plain-cycles c ok)
 
--- ---- 11. One word stands for all. Of an accepted call, and a word that the mask encodes when every frozen position is zero: the call with the LLRs negated
+-- ---- 11. One word stands for all (request No. 10). Of an accepted call, and a word that the mask encodes when every frozen position is zero: the call with the LLRs negated
 -- where the word has a 1 is accepted too, with the same cycles. Soft values are negated there and nowhere else; decided hard bits are flipped there and, with
 -- none undecided, the payload bits where the word's payload has a 1; undecided ones and frozen check are kept. No soft value marked certain stands there.
 pub one-for-all : (c : DecodeCall) → decodeNumber c ≡ 0 → (payload : List ℕ) → length payload ≡ unfrozen (c .mask) → T (atMost 1 payload)
@@ -434,3 +435,15 @@ pub one-for-all : (c : DecodeCall) → decodeNumber c ≡ 0 → (payload : List 
     let d : DecodeCall = withLlrs (onOnes negℤ w (c .llrs)) c in
     (decodeNumber d ≡ 0) × FlippedBy w payload (decodeAnswer c) (decodeAnswer d) × (decodeCycles d ≡ decodeCycles c)
 one-for-all c ok payload fits bits = (other-number c ok payload fits bits, other-flipped c ok payload fits bits, other-cycles c ok payload fits bits)
+
+-- So sending the zero payload only suffices: with the LLRs of a codeword, noise and all, the payload is the codeword's exactly where with these LLRs negated at
+-- its ones, which are the zero word's with the noise negated there, it is zeros.
+pub zero-suffices : (c : DecodeCall) → decodeNumber c ≡ 0 → (payload : List ℕ) → length payload ≡ unfrozen (c .mask) → T (atMost 1 payload)
+    → let w : List ℕ = encode (exponent (length (c .mask))) (frozenToZero (c .mask)) payload in
+    let d : DecodeCall = withLlrs (onOnes negℤ w (c .llrs)) c in
+    (decodeAnswer c .payload ≡ payload → decodeAnswer d .payload ≡ replicate (length payload) 0)
+    × (decodeAnswer d .payload ≡ replicate (length payload) 0 → decodeAnswer c .payload ≡ payload)
+zero-suffices c ok payload fits bits =
+    let w : List ℕ = encode (exponent (length (c .mask))) (frozenToZero (c .mask)) payload in
+    let d : DecodeCall = withLlrs (onOnes negℤ w (c .llrs)) c in
+    right-exactly payload (decodeAnswer c .payload) (decodeAnswer d .payload) bits (one-for-all c ok payload fits bits .1 .payload-flipped)

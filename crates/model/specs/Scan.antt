@@ -143,14 +143,15 @@ flipDecoded word bits d =
       undecided = d .undecided;
     }
 
--- what a second answer has of a first where the LLRs were negated at the ones of a word, which is that of a payload
-pub record FlippedBy (word payload : List ℕ) (d d′ : Decoded) : Type 0 where
-  pub soft-negated : d′ .soft ≡ onOnes negate word (d .soft)
-  pub hard-flipped : d′ .hard ≡ onOnes flipBit word (d .hard)
-  pub payload-flipped : d .undecided ≡ 0 → d′ .payload ≡ onOnes flipBit payload (d .payload)
+-- an answer d′ beside an answer d, whose LLRs were negated where a codeword has a 1; `payload` is the codeword's (request No. 10). With a bit undecided all
+-- payload bytes are 2 in both, which flipBit leaves.
+pub record FlippedBy (codeword payload : List ℕ) (d d′ : Decoded) : Type 0 where
+  pub soft-negated : d′ .soft ≡ onOnes negate codeword (d .soft)
+  pub hard-flipped : d′ .hard ≡ onOnes flipBit codeword (d .hard)
+  pub payload-flipped : d′ .payload ≡ onOnes flipBit payload (d .payload)
   pub undecided-kept : d′ .undecided ≡ d .undecided
   pub check-kept : d′ .check ≡ d .check
-  pub none-certain : (j : ℕ) → getD word j 0 ≡ 1 → Finite (d .soft at j)
+  pub none-certain : (j : ℕ) → getD codeword j 0 ≡ 1 → Finite (d .soft at j)
 
 -- bit 0 is sent as +1, bit 1 as -1: no LLR is zero, and an LLR is negative exactly where the word has a 1
 abbrev pub SignsOf : ℕ → List ℕ → List ℤ → Type 0
