@@ -32,8 +32,7 @@ _Noreturn void fail(const char *what);
 void read_code(code *c, const char *path);
 
 // Which payloads are sent: drawn ones, or the zero payload only, with the noise negated where the word of the drawn one
-// has a 1. For the decoder both are the same link (`one-for-all` in crates/model/proofs/Theorems.antt): every count of
-// errors is equal.
+// has a 1. The library's decoder makes the same errors with both (`zero-suffices` in crates/model/proofs/Theorems.antt).
 typedef enum { DRAWN, ZERO } sending;
 
 // The frames of a code depend on the seed, on Eb/N0 and on what is sent only.

@@ -1,5 +1,5 @@
-// Block and bit error rates over the library's C interface: random payloads, or the zero payload only, encoder, BPSK with
-// Gaussian noise, front end, decoder. On the same frames:
+// Block and bit error rates over the library's C interface: random payloads, or the zero payload only, encoder, BPSK
+// with Gaussian noise, front end, decoder. On the same frames:
 //   SC          successive cancellation, floating-point, on 2y/v, not rounded
 //   v/256, v    the library at several numbers of sweeps, its front end working with the noise variance v / 256 and v
 // In every frame, or in every so many, floating-point SCAN walked to the last leaf on the front end's LLRs must give

@@ -450,6 +450,34 @@ static void compare_flipped(const uint8_t *mask, size_t N, const uint8_t *plan, 
     if (memcmp(soft, buffer(SOFT), N * sizeof *soft) || memcmp(hard, buffer(HARD), N)) stop("a flipped frame");
 }
 
+/* An accepted decode again, as request No. 10 says it: the LLRs negated where a word has a 1 that the mask encodes with
+ * zeros at the frozen positions. Soft values are negated there, decided bits flipped, also those of the payload where the
+ * word's payload has a 1; the answer is the same, and no soft value there is certain. */
+static void compare_negated(struct random *r, const uint8_t *mask, size_t N, const uint8_t *plan, size_t sweeps,
+                            const int16_t *llrs, uint64_t answer) {
+    static int32_t soft[REF_MAX_N], work[RUZNAVO_MAX_WORK_WORDS];
+    int16_t negated[REF_MAX_N];
+    uint8_t zeros[REF_MAX_N], bits[REF_MAX_N], word[REF_MAX_N], hard[REF_MAX_N], payload[REF_MAX_N];
+    const int32_t *first = buffer(SOFT);
+    size_t K = ref_unfrozen(mask, N);
+    for (size_t i = 0; i < N; i++) zeros[i] = mask[i] != RUZNAVO_UNFROZEN;
+    random_bytes(r, bits, K);
+    ref_encode(zeros, N, bits, K, word, N);
+    for (size_t i = 0; i < N; i++) negated[i] = (int16_t)(word[i] ? -llrs[i] : llrs[i]);
+    if (ruznavo_decode(mask, N, plan, 2 * N, sweeps, negated, N, soft, N, hard, N, payload, K, work,
+                       RUZNAVO_MAX_WORK_WORDS) != answer)
+        stop("a negated frame's answer");
+    for (size_t i = 0; i < N; i++) {
+        if (word[i] && (first[i] == RUZNAVO_CERTAIN || first[i] == RUZNAVO_CERTAIN_ONE)) stop("a certain value");
+        if (word[i]) soft[i] = -soft[i];
+        if (word[i] && hard[i] != RUZNAVO_UNDECIDED) hard[i] ^= 1;
+    }
+    for (size_t i = 0; i < K; i++)
+        if (bits[i] && payload[i] != RUZNAVO_UNDECIDED) payload[i] ^= 1;
+    if (memcmp(soft, first, N * sizeof *soft) || memcmp(hard, buffer(HARD), N) || memcmp(payload, buffer(PAYLOAD), K))
+        stop("a negated frame");
+}
+
 /* Counts an accepted decode. */
 static void count_decode(const struct code *c, const struct plan *p, size_t sweeps, int check, size_t undecided) {
     int stage = ref_exponent(c->mask_length);
@@ -496,6 +524,7 @@ static void decode_case(struct random *r) {
     if (number != 0) return;
     count_decode(&c, &p, m.sweeps, check, undecided);
     if (has_ones(c.mask, c.mask_length)) compare_flipped(c.mask, c.mask_length, p.bytes, m.sweeps, llrs, answer);
+    compare_negated(r, c.mask, c.mask_length, p.bytes, m.sweeps, llrs, answer);
 }
 
 /* ---- captures */
