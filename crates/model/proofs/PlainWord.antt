@@ -15,7 +15,7 @@ use Rattle.model.proofs.Algebra.{box-comm}
 use Rattle.model.proofs.Payload.{place-back, place-clean, place-bits}
 use Rattle.model.proofs.TwoRuns.{minus, Rel, Laws, soft-paired}
 use Rattle.model.proofs.Flips.{finite-box, finite-plus, word-sign}
-use Rattle.model.proofs.Decisions.{Shifted, unfrozen-same, decode-flip}
+use Rattle.model.proofs.Decisions.{flip-twice, Shifted, unfrozen-same, decode-flip}
 use Rattle.model.proofs.FrozenPositions.{toZero-at, toZero-unfrozen}
 use Rattle.model.proofs.KnownOnes.{known-shifted, toZero-plain}
 
@@ -100,11 +100,6 @@ module _ (mask payload : List ℕ) (fits : length payload ≡ unfrozen mask) (bi
       ∙ ap (λ p. flipDecoded (transform n plainPlace) p (decodeScan n mask L k)) plain-payload
 
 -- ---- a payload that is right, and zeros
-flip-twice : (b : ℕ) → flipBit (flipBit b) ≡ b
-flip-twice zero = refl
-flip-twice (suc zero) = refl
-flip-twice (suc (suc b)) = refl
-
 -- zeros flipped where a payload has a 1 are that payload
 flip-zeros : (p : List ℕ) → T (atMost 1 p) → onOnes flipBit p (replicate (length p) 0) ≡ p
 unfolding onOnes atMost
