@@ -17,7 +17,7 @@ use Rattle.model.proofs.RankOrder.{weight-made, weight-unfrozen}
 use Rattle.model.proofs.LargestWeight.{weight-has, atleast-row, row-atleast}
 
 -- ---- every list of k bits
-every-bits-at : (k : ℕ) (f : List ℕ → Bool) → T (everyBits k f) → (l : List ℕ) → length l ≡ k → T (atMost 1 l) → T (f l)
+pub every-bits-at : (k : ℕ) (f : List ℕ → Bool) → T (everyBits k f) → (l : List ℕ) → length l ≡ k → T (atMost 1 l) → T (f l)
 unfolding everyBits atMost
 every-bits-at zero f t [] e a = t
 every-bits-at zero f t (x ∷ l) e a = let z : ⊥ = omega arith in absurd z

@@ -24,7 +24,7 @@ use Rattle.model.proofs.Flips.{flipped, flipped-twice, flipped-eq, flip
 use Rattle.model.proofs.Decisions.{Shifted, shifted-turned, decode-flip, flip-twice, same-answer}
 
 -- ---- places and halves
-known-at : (mask : List ℕ) (k : ℕ) → getD (knownBits mask) k 0 ≡ bit (isKnownOne (getD mask k 0))
+pub known-at : (mask : List ℕ) (k : ℕ) → getD (knownBits mask) k 0 ≡ bit (isKnownOne (getD mask k 0))
 unfolding knownBits
 known-at mask k = List·getD-map (λ m. bit (isKnownOne m)) mask k 0
 
@@ -69,7 +69,7 @@ known-shifted mask =
     twice true = refl
     twice false = refl
 
-known-turned : (n : ℕ) (mask : List ℕ) → Turned n (knownBits mask) mask (frozenToZero mask)
+pub known-turned : (n : ℕ) (mask : List ℕ) → Turned n (knownBits mask) mask (frozenToZero mask)
 known-turned n mask = shifted-turned n (knownBits mask) mask (frozenToZero mask) (known-shifted mask)
 
 -- ---- the state of a mask, flipped, is one of the mask with 1 for 2

@@ -1,5 +1,5 @@
 -- Theorems.antt states what the others lead to; Frames.antt has document 01's nine frames and frames with positions frozen to 1, CaptureExamples.antt small
--- captures, MaskExamples.antt small masks.
+-- captures, MaskExamples.antt small masks, FlipExamples.antt flip attempts.
 pub mod Lists
 pub mod Algebra
 pub mod Transform
@@ -32,6 +32,7 @@ pub mod Captures
 pub mod Calls
 pub mod Sums
 pub mod RowWeights
+pub mod Keys
 pub mod Ranks
 pub mod RankOrder
 pub mod RankTable
@@ -39,7 +40,12 @@ pub mod WordWeights
 pub mod LeastWeight
 pub mod LargestWeight
 pub mod Distance
+pub mod Crc
+pub mod Ranking
+pub mod LeafValues
+pub mod Attempts
 pub mod Theorems
 pub mod Frames
 pub mod CaptureExamples
 pub mod MaskExamples
+pub mod FlipExamples

@@ -188,6 +188,12 @@ eqb-apart m n h = go (eqb m n) refl
     go true e = absurd (h (eqb→eq m n (subst T (sym e) tt)))
     go false e = e
 
+pub eqb-swap : (m n : ℕ) → eqb m n ≡ eqb n m
+eqb-swap m n = T-ext (eqb m n) (eqb n m) (turned m n) (turned n m)
+  where
+    turned : (m n : ℕ) → T (eqb m n) → T (eqb n m)
+    turned m n t = subst (λ (k : ℕ). T (eqb k m)) (eqb→eq m n t) (eqb-refl m)
+
 pub take-map : {A B : Type 0} (f : A → B) (n : ℕ) (xs : List A) → take n (map f xs) ≡ map f (take n xs)
 take-map f zero xs = refl
 take-map f (suc n) [] = refl

@@ -3,65 +3,33 @@ use mathlib.Core.Path.{_≡_, refl, sym, ap, _∙_}
 use mathlib.Core.Bool.{Bool, true, false, cond, _&&_, _||_}
 use mathlib.Core.List.{List, [], _∷_}
 use Prim.Native.Nat.{ℕ, _+_, _*_, _^_, _≤_, _<_}
-use native.Mathlib.Nat.{mul-le-mul-right}
 use native.Mathlib.Decide.{decLt}
 use native.Mathlib.Omega.{arith}
-use lib.Dec.{eqb, ltb}
-use lib.Arith.{lt-of-le-ne}
+use lib.Dec.{ltb}
 use lib.Count.{ones}
 use lib.ListN.{length, getD}
-use borrow.Author.Tests.{ltb-true, ltb-false, eqb-true, eqb-false, lt-ltb, le-ltb}
+use borrow.Author.Tests.{ltb-true, ltb-false}
 use Rattle.model.specs.Lists.{total, bit}
 use Rattle.model.specs.Encoding.{PlainMask, isUnfrozen, unfrozen}
-use Rattle.model.proofs.Lists.{total-ext, length-tabulate, getD-tabulate, at-most-tabulate, cond-both}
+use Rattle.model.proofs.Lists.{total-ext, eqb-swap, length-tabulate, getD-tabulate, at-most-tabulate, cond-both}
 use Rattle.model.specs.Masks.{ranksBefore, ahead, weightByte, weightMask}
 use Rattle.model.proofs.Transform.{add-monoid}
+use Rattle.model.proofs.Keys.{pair-up, pair-order, pair-same}
 use Rattle.model.proofs.Ranks.{rank, rank-lt, low, low-all}
 
 -- ---- one number for a position below N: larger for more ones, and for the larger position among equals
 unfoldable pub key : ℕ → ℕ → ℕ
 key N i = ones i * N + i
 
-module _ (N i j : ℕ) (I : i < N) (J : j < N) where
-  up-ones : ones i < ones j → key N i < key N j
-  unfolding key
-  up-ones h = omega (arith, mul-le-mul-right N h)
-
-  up-place : ones i ≡ ones j → i < j → key N i < key N j
-  unfolding key
-  up-place e h = omega (arith, ap (λ (z : ℕ). z * N) e)
-
-  down-place : ones i ≡ ones j → j ≤ i → key N j ≤ key N i
-  unfolding key
-  down-place e h = omega (arith, ap (λ (z : ℕ). z * N) e)
-
 -- the test of the order is that of the numbers
 pub ranks-before-is : (N i j : ℕ) → i < N → j < N → ranksBefore j i ≡ ltb (key N i) (key N j)
-ranks-before-is N i j I J = go (ltb (ones i) (ones j)) (eqb (ones j) (ones i)) (ltb i j) refl refl refl
-  where
-    go : (a b c : Bool) → ltb (ones i) (ones j) ≡ a → eqb (ones j) (ones i) ≡ b → ltb i j ≡ c → (a || (b && c)) ≡ ltb (key N i) (key N j)
-    go true b c p q r = sym (lt-ltb (key N i) (key N j) (up-ones N i j I J (ltb-true (ones i) (ones j) p)))
-    go false true true p q r = sym (lt-ltb (key N i) (key N j) (up-place N i j I J (sym (eqb-true (ones j) (ones i) q)) (ltb-true i j r)))
-    go false true false p q r = sym (le-ltb (key N i) (key N j) (down-place N i j I J (sym (eqb-true (ones j) (ones i) q)) (ltb-false i j r)))
-    go false false c p q r = sym (le-ltb (key N i) (key N j) (below (up-ones N j i J I (lt-of-le-ne (ltb-false (ones i) (ones j) p) (eqb-false (ones j) (ones i) q)))))
-      where
-        below : {a b : ℕ} → a < b → a ≤ b
-        below h = omega arith
+unfolding key
+ranks-before-is N i j I J = ap (λ (e : Bool). ltb (ones i) (ones j) || (e && ltb i j)) (eqb-swap (ones j) (ones i)) ∙ pair-order N (ones i) (ones j) i j I J
 
 -- numbers that agree are those of one position
 pub key-same : (N i j : ℕ) → i < N → j < N → key N i ≡ key N j → i ≡ j
-key-same N i j I J e = go (decLt (ones i) (ones j)) (decLt (ones j) (ones i))
-  where
-    same : ones i ≡ ones j → i ≡ j
-    same o = turn (ones i * N) (ones j * N) (ap (λ (z : ℕ). z * N) o) (unfold key in e)
-      where
-        turn : (a b : ℕ) → a ≡ b → a + i ≡ b + j → i ≡ j
-        turn a b p q = omega arith
-
-    go : Dec (ones i < ones j) → Dec (ones j < ones i) → i ≡ j
-    go (yes h) d = let z : ⊥ = omega (arith, up-ones N i j I J h) in absurd z
-    go (no h) (yes g) = let z : ⊥ = omega (arith, up-ones N j i J I g) in absurd z
-    go (no h) (no g) = same (omega arith)
+unfolding key
+key-same N i j I J e = pair-same N (ones i) (ones j) i j I J e
 
 pub ahead-is : (N i : ℕ) → i < N → ahead N i ≡ rank (key N) N i
 unfolding ahead rank
@@ -106,7 +74,7 @@ pub no-fewer : (N i j : ℕ) → i < N → j < N → ahead N i ≤ ahead N j →
 no-fewer N i j I J h = go (decLt (ones i) (ones j))
   where
     go : Dec (ones i < ones j) → ones j ≤ ones i
-    go (yes l) = let z : ⊥ = omega (arith, h, ahead-is N i I, ahead-is N j J, rank-lt (key N) N j i J (up-ones N i j I J l)) in absurd z
+    go (yes l) = let z : ⊥ = omega (arith, h, ahead-is N i I, ahead-is N j J, rank-lt (key N) N j i J (unfold key in pair-up N (ones i) (ones j) i j I J l)) in absurd z
     go (no l) = omega arith
 
 pub unfrozen-ahead : (n K i : ℕ) → i < 2 ^ n → isUnfrozen (getD (weightMask n K) i 0) ≡ true → ahead (2 ^ n) i < K

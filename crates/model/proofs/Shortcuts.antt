@@ -86,7 +86,7 @@ sound-visit (suc t) mask T L S =
     let Sr : Sound t (drop (2 ^ t) mask) r = sound-visit t (drop (2 ^ t) mask) (right T) (toRight (2 ^ t) L (message l)) (S .2) in
     (λ e. zeros t L (message l) (message r) (sound-zero t (take (2 ^ t) mask) l Sl (zero-l t e)) (sound-zero t (drop (2 ^ t) mask) r Sr (zero-r t e)), Sl, Sr)
 
-ones : (t : ℕ) (L l r : List Soft) → l ≡ flat (2 ^ t) certain → r ≡ flat (2 ^ t) certain → toNode (2 ^ t) L l r ≡ flat (2 ^ suc t) certain
+pub ones : (t : ℕ) (L l r : List Soft) → l ≡ flat (2 ^ t) certain → r ≡ flat (2 ^ t) certain → toNode (2 ^ t) L l r ≡ flat (2 ^ suc t) certain
 unfolding toNode box plus
 ones t L l r el er =
     tabulate-halves t (λ k. certain) (λ k. box (l at k) (plus (L at (k + 2 ^ t)) (r at k))) (λ k. plus (r at k) (box (L at k) (l at k)))

@@ -80,13 +80,13 @@ lean-zero : (s : Bool) → Leans s softZero
 lean-zero true = (0, zero-le, refl)
 lean-zero false = (0, zero-le, refl)
 
-abbrev FirmR : Rel
+abbrev pub FirmR : Rel
 FirmR t s x x′ = Firm s x
 
-abbrev LeansR : Rel
+abbrev pub LeansR : Rel
 LeansR t s x x′ = Leans s x
 
-lean-laws : Laws FirmR FirmR LeansR LeansR
+pub lean-laws : Laws FirmR FirmR LeansR LeansR
 lean-laws =
     record {
       sum = λ t s x x′ y y′ f g. least-plus 1 s x y f g;
@@ -98,7 +98,7 @@ lean-laws =
       none = λ t s. lean-zero s;
     }
 
-lean-leaf : (b m : ℕ) → (eqb m 0 ≡ false → b ≡ bit (isKnownOne m)) → Leans (minus b) (leafValue m)
+pub lean-leaf : (b m : ℕ) → (eqb m 0 ≡ false → b ≡ bit (isKnownOne m)) → Leans (minus b) (leafValue m)
 unfolding leafValue
 lean-leaf b m C = go (eqb m 0) refl
   where
@@ -124,7 +124,7 @@ hard-sign s (finite z) f = ap (λ (z : ℤ). hardBit (finite z)) (f .2) ∙ go s
     go true (suc n) h = refl
     go false (suc n) h = refl
 
-bit-minus : (b : ℕ) → b ≤ 1 → bit (minus b) ≡ b
+pub bit-minus : (b : ℕ) → b ≤ 1 → bit (minus b) ≡ b
 bit-minus zero h = refl
 bit-minus (suc zero) h = refl
 bit-minus (suc (suc b)) h = let z : ⊥ = omega arith in absurd z
@@ -159,11 +159,11 @@ firm-llr b (negsuc n) nz e = (suc n, omega arith, ap (λ (s : Bool). signed s (s
 
 module _ (n : ℕ) (mask payload : List ℕ) (llrs : List ℤ) (sized : length mask ≡ 2 ^ n) (fits : length payload ≡ unfrozen mask) (bits : T (atMost 1 payload))
     (signs : SignsOf n (encode n mask payload) llrs) (k : ℕ) where
-  u : List ℕ
+  abbrev u : List ℕ
   u = place mask payload
 
-  firm : FirmAll n u (map finite llrs)
-  unfolding encode u
+  pub firm : FirmAll n u (map finite llrs)
+  unfolding encode
   firm j h =
       let b : ℕ = getD (transform n u) j 0 in
       rw (List·getD-map finite llrs j (pos 0)) (firm-llr (minus b) (getD llrs j (pos 0)) (signs j h .0) (signs j h .1 ∙ ap (λ (x : ℕ). eqb x 1) (sym (whole b (transform-bit n u j h)))))
@@ -172,7 +172,7 @@ module _ (n : ℕ) (mask payload : List ℕ) (llrs : List ℤ) (sized : length m
       whole b h = omega arith
 
   pub signs-hard : decodeScan n mask (map finite llrs) k .hard ≡ encode n mask payload
-  unfolding decodeScan decided encode u
+  unfolding decodeScan decided encode
   signs-hard = hard-is-word n mask u (λ j h e. place-clean mask payload j e) (map finite llrs) firm k
 
   -- the decoded u

@@ -12,7 +12,7 @@ use lib.Dec.{T}
 use lib.IntN.{ℤ, negℤ}
 use lib.ListN.{length, getD, replicate}
 use lib.Pow.{pow-mono}
-use Rattle.model.specs.Lists.{atMost, onOnes}
+use Rattle.model.specs.Lists.{atMost, bit, onOnes, over}
 use Rattle.model.specs.Soft.{Soft, finite, softZero, _at_, negate, plus, maxLlr, wordOf}
 use Rattle.model.specs.Encoding.{PlainMask, Mask, maxMask, isUnfrozen, isKnownOne, knownBits, knownWord, frozenToZero, unfrozen, place, encode}
 use Rattle.model.specs.Scan.{Tree, message, start, FiniteAll, visit, sweeps, scan, hardBit, decided, decodeScan, flipBit, flipTree, flipDecoded, SignsOf, FlippedBy}
@@ -24,6 +24,8 @@ use Rattle.model.specs.Refusals.{refusal, row-1, row-2, row-4, row-7, De
 use Rattle.model.specs.Captures.{isCapture, maskSize, maskIn, frameSize, frameCount, CaptureFrame, frameAt, frameNumber, captureNumber, frameCall, differing, withFrame, totalsOf, sumOver}
 use Rattle.model.specs.Masks.{weight, matrixRow, ranksBefore, weightMask, InRankOrder}
 use Rattle.model.specs.Distance.{UnfrozenAt, AtLeast, LeastWeight, leastRow, oneAt, single, hasDistance, noMask}
+use Rattle.model.specs.Crc.{Multiple, isMultiple}
+use Rattle.model.specs.Attempts.{lastInputs, rankedLeaf, maskOf, Ranked, Found, FlipCall, flipNumber, flipAnswer, flipMatched, flipAttempts, flipPayload}
 use Rattle.model.specs.Bounds.{SmallAll, Under, Within, Held, AllUnder, InRange, SumsMeet, limit, cap}
 use Rattle.model.proofs.FrozenPositions.{kinds-alike, allowed-alike, allowed-back, planner-alike, cycles-alike, counts-alike}
 use Rattle.model.proofs.Shortcuts.{sound-start}
@@ -50,6 +52,9 @@ use Rattle.model.proofs.RankTable.{entry-once, entry-order}
 use Rattle.model.proofs.LeastWeight.{an-open, least-le, least-at, placed, single-weight, word-bound, least-weight}
 use Rattle.model.proofs.LargestWeight.{weight-best, row-atleast}
 use Rattle.model.proofs.Distance.{has-says, says-has, no-mask-says, says-no-mask, none-exact}
+use Rattle.model.proofs.Crc.{test-multiple, multiple-test}
+use Rattle.model.proofs.LeafValues.{last-small, last-known}
+use Rattle.model.proofs.Attempts.{ranked-is, ranked-leaf, mask-of, flip-found, signs-flip, flip-size}
 use Rattle.model.proofs.Bounds.{ones-any, ones-none, within-sweeps, within-start, within-all, within-held, held-sweeps, in-range, soft-under, under-plus, under-mono, cap-limit}
 
 -- ---- 1. Every accepted decode, whichever allowed plan it is given, equals SCAN walked to the last leaf. LLRs are finite.
@@ -447,3 +452,49 @@ zero-suffices c ok payload fits bits =
     let w : List ℕ = encode (exponent (length (c .mask))) (frozenToZero (c .mask)) payload in
     let d : DecodeCall = withLlrs (onOnes negℤ w (c .llrs)) c in
     right-exactly payload (decodeAnswer c .payload) (decodeAnswer d .payload) bits (one-for-all c ok payload fits bits .1 .payload-flipped)
+
+-- ---- 12. Flip attempts (request No. 11).
+
+-- A pass is a decode with the leaf-only plan: in every node its messages are SCAN's.
+pub leaves-agree : (n : ℕ) (mask : List ℕ) → Mask n mask → (L : List Soft) → FiniteAll n L → (k : ℕ)
+    → Agree (leafOnly n) n 1 (sweeps (λ T. visit n T L) k (start n mask)) (sweeps (λ T. walk (leafOnly n) n 1 mask T L) k (start n mask))
+leaves-agree n mask M L F k = plan-agrees n (leafOnly n) mask (leafOnly-allowed n mask M) L F k (start n mask) (agree-same (leafOnly n) n 1 (start n mask))
+
+-- Incoming leaf values are finite and within 32767 × 1024.
+pub leaf-values-small : (n : ℕ) → n ≤ 10 → (mask : List ℕ) (L : List Soft) → SmallAll n maxLlr L → (k : ℕ) → SmallAll n limit (lastInputs n mask L k)
+leaf-values-small = last-small
+
+-- At the unfrozen leaves they are those of the mask with 1 for 2, with LLRs flipped by the word of the frozen values.
+pub leaf-values-ones : (n : ℕ) (mask : List ℕ) (L : List Soft) → FiniteAll n L → (k j : ℕ) → j < 2 ^ n → T (isUnfrozen (getD mask j 0))
+    → lastInputs n (frozenToZero mask) (onOnes negate (knownWord n mask) L) k at j ≡ lastInputs n mask L k at j
+leaf-values-ones = last-known
+
+-- The test of every quotient says that a quotient exists.
+pub multiple-says : (bits : List ℕ) → (T (isMultiple bits) → Multiple bits) × (Multiple bits → T (isMultiple bits))
+multiple-says bits = (test-multiple bits, multiple-test bits)
+
+-- Each rank below K is that of exactly one unfrozen leaf.
+pub ranked-once : (mask : List ℕ) (v : List Soft) (r : ℕ) → r < unfrozen mask
+    → Ranked mask v r (rankedLeaf mask v r) × ((p : ℕ) → Ranked mask v r p → rankedLeaf mask v r ≡ p)
+ranked-once mask v r h = (ranked-leaf mask v r h, ranked-is mask v r)
+
+-- The mask of an attempt is a mask.
+pub attempt-masks : (n : ℕ) (mask : List ℕ) (L : List Soft) (k t : ℕ) → Mask n mask → Mask n (maskOf n mask L k t)
+attempt-masks = mask-of
+
+-- An accepted call's match is a multiple, and no earlier attempt's payload is one; without a match, none of the attempts' payloads is, and as many were made as are
+-- allowed and there are unfrozen leaves for.
+pub first-match : (c : FlipCall) → flipNumber c ≡ 0
+    → Found (exponent (length (c .mask))) (c .mask) (map finite (c .llrs)) (c .sweeps) (c .allowed) (flipAnswer c)
+    × (flipMatched c ≡ bit (flipAnswer c .matched)) × (flipAttempts c ≡ flipAnswer c .attempts)
+unfolding flipAnswer flipMatched flipAttempts
+first-match c ok = (flip-found (exponent (length (c .mask))) (c .mask) (map finite (c .llrs)) (c .sweeps) (c .allowed), rw ok, rw ok)
+
+-- Non-zero LLRs with the signs of a word whose payload is a multiple give that payload, matched with t = 0.
+pub signs-match : (c : FlipCall) → flipNumber c ≡ 0 → (payload : List ℕ) → length payload ≡ unfrozen (c .mask) → T (atMost 1 payload) → Multiple payload
+    → SignsOf (exponent (length (c .mask))) (encode (exponent (length (c .mask))) (c .mask) payload) (c .llrs)
+    → (flipMatched c ≡ 1) × (flipAttempts c ≡ 0) × ((buffer : List ℕ) → flipPayload c buffer ≡ over payload buffer)
+unfolding flipAnswer flipMatched flipAttempts flipPayload
+signs-match c ok payload fits bits M signs =
+    let e = signs-flip (exponent (length (c .mask))) (c .mask) payload (c .llrs) (flip-size c ok) fits bits signs M (c .sweeps) (c .allowed) in
+    (rw (ok, e), rw (ok, e), λ buffer. rw (ok, e))

@@ -20,6 +20,11 @@ unfoldable pub every : ℕ → (ℕ → Bool) → Bool
 every zero f = true
 every (suc n) f = f zero && every n (λ k. f (suc k))
 
+-- the least k below n at which f holds, and n where there is none
+unfoldable pub firstWhere : ℕ → (ℕ → Bool) → ℕ
+firstWhere zero f = 0
+firstWhere (suc n) f = cond (f zero) 0 (suc (firstWhere n (λ k. f (suc k))))
+
 -- two lists of numbers are the same
 unfoldable pub same : List ℕ → List ℕ → Bool
 same [] [] = true
