@@ -23,7 +23,7 @@ signed-zero false = refl
 box-zero-l : (b : ℤ) → Word b → boxWord (pos 0) b ≡ pos 0
 box-zero-l b h = boxWord-is (pos 0) b (omega arith) h ∙ ap (signed (differ false (negative b))) (let e : min 0 (natAbs b) ≡ 0 = omega arith in e) ∙ signed-zero (differ false (negative b))
 
-box-zero-r : (a : ℤ) → Word a → boxWord a (pos 0) ≡ pos 0
+pub box-zero-r : (a : ℤ) → Word a → boxWord a (pos 0) ≡ pos 0
 box-zero-r a h = boxWord-is a (pos 0) h (omega arith) ∙ ap (signed (differ (negative a) false)) (let e : min (natAbs a) 0 ≡ 0 = omega arith in e) ∙ signed-zero (differ (negative a) false)
 
 -- both words of the message

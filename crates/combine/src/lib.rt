@@ -75,7 +75,7 @@ pub fn message_right_zero(w: &mut [i32], m: usize, x: usize, l: usize, h: usize)
 }
 
 // The first word of the message where the children are leaves, whose words are certain or 0: box(left, second + right).
-fn leaves_low(left: bool, right: bool, second: i32) -> i32
+pub fn leaves_low(left: bool, right: bool, second: i32) -> i32
     requires { ⌜ Word second ⌝ }
     ensures { λ r. ⌜ r ≡ boxWord (cond left (pos mark) (pos 0)) (addWord second (cond right (pos mark) (pos 0))) ⌝ }
 {
@@ -87,7 +87,7 @@ fn leaves_low(left: bool, right: bool, second: i32) -> i32
 }
 
 // The second word: box(first, left) + right.
-fn leaves_high(left: bool, right: bool, first: i32) -> i32
+pub fn leaves_high(left: bool, right: bool, first: i32) -> i32
     requires { ⌜ Word first ⌝ }
     ensures { λ r. ⌜ r ≡ addWord (boxWord first (cond left (pos mark) (pos 0))) (cond right (pos mark) (pos 0)) ⌝ }
 {

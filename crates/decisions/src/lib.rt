@@ -98,7 +98,7 @@ fn leave_undecided(payload: &mut [u8], k: usize)
 }
 
 // The unfrozen bits of u, to the front of payload.
-fn read_payload(mask: &[u8], u: &[u8], payload: &mut [u8])
+pub fn read_payload(mask: &[u8], u: &[u8], payload: &mut [u8])
     requires { ⌜ (length (now mask) ≤ length (now u)) × (unfrozen (now mask) ≤ length (now payload)) ⌝ }
     ensures { λ _. ⌜ now (payload .exit) ≡ over (payloadOf (now (mask .entry)) (now (u .entry))) (now (payload .entry)) ⌝ }
 {

@@ -36,7 +36,7 @@ fn answer(number: u32, cycles: u32, check: u8, undecided: u16) -> Decoded
 }
 
 // Whether every LLR is within its range.
-fn in_range(llrs: &[i16]) -> bool
+pub fn in_range(llrs: &[i16]) -> bool
     ensures { λ r. ⌜ r ≡ llrsInRange (now (llrs .entry)) ⌝ }
 {
     let mut good = true;
@@ -68,7 +68,7 @@ fn refused(number: u32) -> Tested
 }
 
 // Tests 3 and 4, for N.
-fn count_tests(size: usize, llrs: usize, sweeps: usize) -> u32
+pub fn count_tests(size: usize, llrs: usize, sweeps: usize) -> u32
     ensures { λ r. ⌜ r ≡ refusal (row-3 llrs size ∷ row-4 sweeps ∷ []) ⌝ }
 {
     let fit = sweeps_fit(sweeps);

@@ -13,7 +13,7 @@ use Rattle.model.proofs.Lists.{bit-small}
 use Rattle.transform.specs.Steps.{AllBits}
 use Rattle.transform.proofs.StrideLoop.{in-blocks}
 use Rattle.words.specs.Words.{word, write}
-use Rattle.words.proofs.Store.{write-in, length-write, store-none, store-more, store-next}
+use Rattle.words.proofs.Store.{write-in, write-above, length-write, store-none, store-more, store-next}
 
 -- a loop that stores place by place: the first k of n places of w are f's
 pub record Stored {A : Type 0} (w₀ w : List A) (n k : ℕ) (f : ℕ → A) : Type 0 where
@@ -39,6 +39,10 @@ module _ {A : Type 0} (z : A) where
     stored = e ∙ ap (λ (i : ℕ). write w i m (λ j. f (k + j))) (sym (zero-add k)) ∙ store-next z w₀ w 0 k m f (λ j. f (k + j)) (s .stored) (λ j lt. refl);
     long = ap length e ∙ length-write z w k m (λ j. f (k + j)) ∙ s .long;
   }
+
+  -- the next place is as it was
+  pub next-kept : {w₀ w : List A} {n k : ℕ} {f : ℕ → A} → Stored w₀ w n k f → getD w k z ≡ getD w₀ k z
+  next-kept {w₀} {k = k} {f = f} s = ap (λ (l : List A). getD l k z) (s .stored) ∙ write-above z w₀ 0 k f k (omega arith)
 
   -- n places stored
   pub front-stored : {w₀ w : List A} {n k : ℕ} {f : ℕ → A} → Stored w₀ w n k f → n ≤ k → w ≡ write w₀ 0 n f

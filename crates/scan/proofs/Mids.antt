@@ -3,30 +3,30 @@ use mathlib.Core.Path.{_≡_, refl, sym, ap, ap₂, _∙_, subst}
 use mathlib.Core.Logic.{inl, inr}
 use lib.IntN.{ℤ, pos, natAbs}
 use mathlib.Core.List.{List}
-use Prim.Native.Nat.{ℕ, suc, _+_, _*_, _^_, _≤_, _<_}
-use native.Mathlib.Nat.{suc-mul}
+use Prim.Native.Nat.{ℕ, suc, _+_, _-_, _*_, _^_, _≤_, _<_}
+use native.Mathlib.Nat.{suc-mul, mul-add, mul-assoc, mul-comm, mul-le-mul-left, mul-le-mul-right}
 use native.Mathlib.Omega.{arith}
+use lib.Pow.{pow-pos}
 use lib.ListN.{length}
-use mathlib.Core.Bool.{Bool, false}
+use mathlib.Core.Bool.{false}
 use Rattle.model.specs.Soft.{Soft, softZero, _at_, box, plus, mark, wordOf, softOf}
-use Rattle.model.specs.Scan.{Tree, message, toLeft, toRight}
-use Rattle.model.specs.Plans.{walk}
+use Rattle.model.specs.Scan.{Tree, message, toLeft, toRight, toNode}
 use Rattle.model.specs.Bounds.{limit, Small, Under, SmallAll, UnderAll, cap}
-use Rattle.model.proofs.Lists.{double, tabulate-ext}
+use Rattle.model.proofs.Lists.{double, tabulate-ext, tabulate-halves}
 use Rattle.model.proofs.Algebra.{plus-comm, plus-zero-r}
-use Rattle.model.proofs.Bounds.{small-box, small-plus, under-box, under-plus, under-mono, small-mono}
+use Rattle.model.proofs.Bounds.{cap-suc, small-box, small-plus, under-box, under-plus, under-mono, small-mono}
 use Rattle.words.specs.Words.{Word, Added, word, soft, write, Holds, boxWord, addWord, Words}
-use Rattle.halves.specs.Halves.{boxAt, boxPlus, plusBox, Sums, BoxSums, FiniteBoxSums, Combinable, lowHalf, highHalf}
+use Rattle.halves.specs.Halves.{boxAt, boxPlus, plusBox, Sums, BoxSums, FiniteBoxSums, Combinable, lowHalf, highHalf, nodeWords}
 use Rattle.words.proofs.Laws.{word-soft, soft-at, small-under, small-size, under-word, soft-box, soft-add, added}
-use Rattle.words.proofs.Store.{source-below}
-use Rattle.scan.specs.Space.{treeAt, begun, frozenPart, Kept, Visited}
-use Rattle.scan.proofs.Keep.{Fit, kept-refl, kept-trans, kept-scratch, kept-row, kept-child, fit-kept, tree-cong, message-at, under, stored-at}
+use Rattle.words.proofs.Store.{source-below, length-write}
+use Rattle.scan.specs.Space.{Kept}
+use Rattle.scan.proofs.Keep.{Fit, kept-refl, kept-trans, kept-scratch, kept-row, kept-child, fit-kept, row-below, stored-at}
 
 -- a word of a value within `limit`, and of a finite one
-within-word : (q : ℤ) (b : Soft) → softOf q ≡ b → Under false limit b → Word q
+pub within-word : (q : ℤ) (b : Soft) → softOf q ≡ b → Under false limit b → Word q
 within-word q b e u = under-word false limit q (omega arith) (subst (Under false limit) (sym e) u)
 
-small-word : (q : ℤ) (b : Soft) → softOf q ≡ b → Small limit b → natAbs q < mark
+pub small-word : (q : ℤ) (b : Soft) → softOf q ≡ b → Small limit b → natAbs q < mark
 small-word q b e s = let h : natAbs q ≤ limit = small-size limit q (subst (Small limit) (sym e) s) in omega arith
 
 -- ---- box and sum of words whose soft values are known and stay within `limit`
@@ -60,24 +60,44 @@ module _ (p q r : ℤ) (a b c : Soft) (ea : softOf p ≡ a) (eb : softOf q ≡ b
       let u : Under false limit (box a b) = small-under false limit (box a b) s in
       added limit (omega arith) (boxWord p q) r (small-word (boxWord p q) (box a b) (box-is u) s) (plus-box-under u v)
 
--- ---- the state in the middle of a visit of a node of stage t + 1 that began with w
-pub record Mid (N t b x : ℕ) (w v : List ℤ) (A B : Tree) : Type 0 where
-  pub kept : Kept N (suc t) b x w v
-  pub lefts : treeAt N v t b ≡ A
-  pub rights : treeAt N v t (b + 2 ^ t) ≡ B
+-- ---- how words are read as the trees of nodes of stage t, by their first position: from the rows up to t alone, the message from the row t
+pub record Reads (N t : ℕ) (tree : List ℤ → ℕ → Tree) : Type 0 where
+  pub cong : (b : ℕ) (w v : List ℤ) → ((u i : ℕ) → u ≤ t → b ≤ i → i < b + 2 ^ t → word v (u * N + i) ≡ word w (u * N + i)) → tree v b ≡ tree w b
+  pub row-is : (b : ℕ) (w : List ℤ) (k : ℕ) → k < 2 ^ t → softOf (word w (t * N + b + k)) ≡ message (tree w b) at k
 
-pub mid-start : (N t b x : ℕ) (w : List ℤ) → Mid N t b x w w (treeAt N w t b) (treeAt N w t (b + 2 ^ t))
-mid-start N t b x w = record { kept = kept-refl N (suc t) b x w; lefts = refl; rights = refl }
+-- ---- the state in the middle of a visit of a node of stage t + 1 that began with w
+pub record Mid (tree : List ℤ → ℕ → Tree) (N t b x : ℕ) (w v : List ℤ) (A B : Tree) : Type 0 where
+  pub kept : Kept N (suc t) b x w v
+  pub lefts : tree v b ≡ A
+  pub rights : tree v (b + 2 ^ t) ≡ B
+
+pub mid-start : (tree : List ℤ → ℕ → Tree) (N t b x : ℕ) (w : List ℤ) → Mid tree N t b x w w (tree w b) (tree w (b + 2 ^ t))
+mid-start tree N t b x w = record { kept = kept-refl N (suc t) b x w; lefts = refl; rights = refl }
 
 -- the words w that a visit of an uncut node of stage t + 1 begins with: its incoming values and the sums on the way are within `limit`
-pub record Visiting (N t b x : ℕ) (w : List ℤ) : Type 0 where
+pub record Visiting (tree : List ℤ → ℕ → Tree) (N t b x : ℕ) (w : List ℤ) : Type 0 where
+  pub reads : Reads N t tree
   pub fit : Fit N (suc t) b x (length w)
   pub bound : ℕ
   pub small : SmallAll (suc t) bound (soft w x (2 ^ suc t))
   pub limited : bound + cap t (2 * bound) ≤ limit
   pub doubled : 2 * bound ≤ limit
 
-module _ {N t b x : ℕ} {w v : List ℤ} {A B : Tree} (begin : Visiting N t b x w) (m : Mid N t b x w v A B) where
+-- so they are where the largest sum of incoming values is
+pub sum-limit : (t bound : ℕ) → bound * 2 ^ suc t ≤ limit → bound + cap t (2 * bound) ≤ limit
+sum-limit t bound limited =
+    let e : cap (suc t) bound ≡ bound + cap t (2 * bound) = cap-suc t bound in
+    let m : (2 ^ suc t - 1) * bound ≤ 2 ^ suc t * bound = mul-le-mul-right bound (omega arith) in
+    omega (arith, mul-comm (2 ^ suc t) bound)
+
+pub double-limit : (t bound : ℕ) → bound * 2 ^ suc t ≤ limit → 2 * bound ≤ limit
+double-limit t bound limited = let q : 2 ≤ 2 ^ suc t = omega (arith, double t, pow-pos t) in omega (arith, mul-le-mul-left bound q)
+
+-- the children's incoming values may be twice as large
+pub child-limit : (t bound : ℕ) → bound * 2 ^ suc t ≤ limit → 2 * bound * 2 ^ t ≤ limit
+child-limit t bound limited = omega (arith, ap (λ (z : ℕ). bound * z) (double t), mul-add bound (2 ^ t) (2 ^ t), mul-assoc 2 bound (2 ^ t))
+
+module _ {tree : List ℤ → ℕ → Tree} {N t b x : ℕ} {w v : List ℤ} {A B : Tree} (begin : Visiting tree N t b x w) (m : Mid tree N t b x w v A B) where
   abbrev fit : Fit N (suc t) b x (length w)
   fit = begin .fit
 
@@ -97,39 +117,41 @@ module _ {N t b x : ℕ} {w v : List ℤ} {A B : Tree} (begin : Visiting N t b x
   row : suc t * N ≡ t * N + N
   row = suc-mul t N
 
+  -- rows up to stage t are as they were after a store past them
+  under : (b′ : ℕ) (z : List ℤ) (d n : ℕ) (f : ℕ → ℤ) → z ≡ write v d n f → suc t * N ≤ d → b′ + 2 ^ t ≤ N → tree z b′ ≡ tree v b′
+  under b′ z d n f e le room =
+      begin .reads .cong b′ v z (λ u i lt low high. source-below (pos 0) v z d n f (u * N + i) e (omega (arith, row-below N u (suc t) i (omega arith) (omega arith))))
+
   -- a store into the child's incoming list
-  pub mid-scratch : (z : List ℤ) (f : ℕ → ℤ) → z ≡ write v c (2 ^ t) f → Mid N t b x w z A B
+  pub mid-scratch : (z : List ℤ) (f : ℕ → ℤ) → z ≡ write v c (2 ^ t) f → Mid tree N t b x w z A B
   mid-scratch z f e = record {
     kept = kept-trans (m .kept) (kept-scratch N (suc t) b x v z f (fit-kept (m .kept) fit) c (2 ^ t) e (omega (arith, twice)) (omega (arith, twice)));
-    lefts = under N t b v z c (2 ^ t) f e (omega (arith, fit .rows)) (omega (arith, fit .within, twice)) ∙ m .lefts;
-    rights = under N t (b + 2 ^ t) v z c (2 ^ t) f e (omega (arith, fit .rows)) (omega (arith, fit .within, twice)) ∙ m .rights;
+    lefts = under b z c (2 ^ t) f e (omega (arith, fit .rows)) (omega (arith, fit .within, twice)) ∙ m .lefts;
+    rights = under (b + 2 ^ t) z c (2 ^ t) f e (omega (arith, fit .rows)) (omega (arith, fit .within, twice)) ∙ m .rights;
   }
 
   -- a store into the node's own row
-  pub mid-row : (z : List ℤ) (d : ℕ) (f : ℕ → ℤ) → z ≡ write v d (2 ^ t) f → suc t * N + b ≤ d → d + 2 ^ t ≤ suc t * N + b + (2 ^ t + 2 ^ t) → Mid N t b x w z A B
+  pub mid-row : (z : List ℤ) (d : ℕ) (f : ℕ → ℤ) → z ≡ write v d (2 ^ t) f → suc t * N + b ≤ d → d + 2 ^ t ≤ suc t * N + b + (2 ^ t + 2 ^ t) → Mid tree N t b x w z A B
   mid-row z d f e low high = record {
     kept = kept-trans (m .kept) (kept-row N (suc t) b x v z f (fit-kept (m .kept) fit) d (2 ^ t) e low (omega (arith, twice)));
-    lefts = under N t b v z d (2 ^ t) f e (omega arith) (omega (arith, fit .within, twice)) ∙ m .lefts;
-    rights = under N t (b + 2 ^ t) v z d (2 ^ t) f e (omega arith) (omega (arith, fit .within, twice)) ∙ m .rights;
+    lefts = under b z d (2 ^ t) f e (omega arith) (omega (arith, fit .within, twice)) ∙ m .lefts;
+    rights = under (b + 2 ^ t) z d (2 ^ t) f e (omega arith) (omega (arith, fit .within, twice)) ∙ m .rights;
   }
 
   -- a visit of the left child, of the right child
-  module _ (plan mask : List ℕ) (p : ℕ) (first : Bool) (z : List ℤ) where
-    pub mid-left : Visited plan mask N t p b c first v z
-        → Mid N t b x w z (walk plan t p (frozenPart mask b t) (begun first plan t p (frozenPart mask b t) A) (soft v c (2 ^ t))) B
-    mid-left s = record {
-      kept = kept-trans (m .kept) (kept-child N t b x b v z (omega arith) (omega arith) (fit .rows) (s .kept));
-      lefts = s .tree ∙ ap (λ (T : Tree). walk plan t p (frozenPart mask b t) (begun first plan t p (frozenPart mask b t) T) (soft v c (2 ^ t))) (m .lefts);
-      rights = tree-cong N t (b + 2 ^ t) v z (λ u i le low high. s .kept .rows u i le (omega (arith, fit .within, twice)) (inr low)) ∙ m .rights;
-    }
+  pub mid-left : {z : List ℤ} {T : Tree} → Kept N t b c v z → tree z b ≡ T → Mid tree N t b x w z T B
+  mid-left {z} k e = record {
+    kept = kept-trans (m .kept) (kept-child N t b x b v z (omega arith) (omega arith) (fit .rows) k);
+    lefts = e;
+    rights = begin .reads .cong (b + 2 ^ t) v z (λ u i le low high. k .rows u i le (omega (arith, fit .within, twice)) (inr low)) ∙ m .rights;
+  }
 
-    pub mid-right : Visited plan mask N t p (b + 2 ^ t) c first v z
-        → Mid N t b x w z A (walk plan t p (frozenPart mask (b + 2 ^ t) t) (begun first plan t p (frozenPart mask (b + 2 ^ t) t) B) (soft v c (2 ^ t)))
-    mid-right s = record {
-      kept = kept-trans (m .kept) (kept-child N t b x (b + 2 ^ t) v z (omega arith) (omega arith) (fit .rows) (s .kept));
-      lefts = tree-cong N t b v z (λ u i le low high. s .kept .rows u i le (omega (arith, fit .within, twice)) (inl high)) ∙ m .lefts;
-      rights = s .tree ∙ ap (λ (T : Tree). walk plan t p (frozenPart mask (b + 2 ^ t) t) (begun first plan t p (frozenPart mask (b + 2 ^ t) t) T) (soft v c (2 ^ t))) (m .rights);
-    }
+  pub mid-right : {z : List ℤ} {T : Tree} → Kept N t (b + 2 ^ t) c v z → tree z (b + 2 ^ t) ≡ T → Mid tree N t b x w z A T
+  mid-right {z} k e = record {
+    kept = kept-trans (m .kept) (kept-child N t b x (b + 2 ^ t) v z (omega arith) (omega arith) (fit .rows) k);
+    lefts = begin .reads .cong b v z (λ u i le low high. k .rows u i le (omega (arith, fit .within, twice)) (inl high)) ∙ m .lefts;
+    rights = e;
+  }
 
   -- the right child's incoming list outlasts the child's visit, and so does what it was made of
   pub right-stays : (z y : List ℤ) → z ≡ write v c (2 ^ t) (plusBox v x (t * N + b) (x + 2 ^ t)) → Kept N t (b + 2 ^ t) c z y
@@ -160,12 +182,12 @@ module _ {N t b x : ℕ} {w v : List ℤ} {A B : Tree} (begin : Visiting N t b x
   at-high k lt = ap (λ (i : ℕ). softOf (word v i)) (let e : x + 2 ^ t + k ≡ x + (k + 2 ^ t) = omega arith in e) ∙ at-list (k + 2 ^ t) (omega (arith, twice))
 
   pub at-left : (k : ℕ) → k < 2 ^ t → softOf (word v (t * N + b + k)) ≡ message A at k
-  at-left k lt = message-at N t b v k lt ∙ ap (λ (T : Tree). message T at k) (m .lefts)
+  at-left k lt = begin .reads .row-is b v k lt ∙ ap (λ (T : Tree). message T at k) (m .lefts)
 
   pub at-right : (k : ℕ) → k < 2 ^ t → softOf (word v (t * N + b + 2 ^ t + k)) ≡ message B at k
   at-right k lt =
       ap (λ (i : ℕ). softOf (word v i)) (let e : t * N + b + 2 ^ t + k ≡ t * N + (b + 2 ^ t) + k = omega arith in e)
-      ∙ message-at N t (b + 2 ^ t) v k lt ∙ ap (λ (T : Tree). message T at k) (m .rights)
+      ∙ begin .reads .row-is (b + 2 ^ t) v k lt ∙ ap (λ (T : Tree). message T at k) (m .rights)
 
   -- a child's message that has the same value everywhere
   pub left-holds : (s : Soft) → ((k : ℕ) → k < 2 ^ t → message A at k ≡ s) → Holds v (t * N + b) (2 ^ t) (λ k. wordOf s)
@@ -271,16 +293,33 @@ module _ {N t b x : ℕ} {w v : List ℤ} {A B : Tree} (begin : Visiting N t b x
       in-range = record { first = words-list; left = words-left left-under; right = words-right; sums = left-sums; box-sums = up-sums }
 
       -- the two halves of the message
-      pub low-half : (z : List ℤ) → z ≡ write v (suc t * N + b) (2 ^ t) (lowHalf v x (t * N + b) (2 ^ t))
+      low-half : (z : List ℤ) → z ≡ write v (suc t * N + b) (2 ^ t) (lowHalf v x (t * N + b) (2 ^ t))
           → (k : ℕ) → k < 2 ^ t → softOf (word z (suc t * N + b + k)) ≡ box (message A at k) (plus (upper k) (message B at k))
       low-half z e k lt =
           ap softOf (stored-at v z (suc t * N + b) (2 ^ t) (lowHalf v x (t * N + b) (2 ^ t)) k e lt (omega (arith, fit .fit, fit .rows, fit .within, m .kept .long, twice)))
           ∙ box-plus-is _ _ _ _ _ _ (at-left k lt) (at-high k lt) (at-right k lt) (high-sum k lt)
           (under-box false limit (message A at k) (plus (upper k) (message B at k)) (cap-top (message A at k) (left-under k lt)) (high-sum k lt))
 
-      pub high-half : (base z : List ℤ) → length base ≡ length v → z ≡ write base (suc t * N + b + 2 ^ t) (2 ^ t) (highHalf v x (t * N + b) (2 ^ t))
+      high-half : (base z : List ℤ) → length base ≡ length v → z ≡ write base (suc t * N + b + 2 ^ t) (2 ^ t) (highHalf v x (t * N + b) (2 ^ t))
           → (k : ℕ) → k < 2 ^ t → softOf (word z (suc t * N + b + 2 ^ t + k)) ≡ plus (message B at k) (box (lower k) (message A at k))
       high-half base z long e k lt =
           ap softOf (stored-at base z (suc t * N + b + 2 ^ t) (2 ^ t) (highHalf v x (t * N + b) (2 ^ t)) k e lt (omega (arith, fit .fit, fit .rows, fit .within, m .kept .long, long, twice)))
           ∙ plus-box-is _ _ _ _ _ _ (at-low k lt) (at-left k lt) (at-right k lt) (boxed-top (message A at k) k lt) (up-top k lt)
           ∙ plus-comm (box (lower k) (message A at k)) (message B at k)
+
+      pub own-message : {z : List ℤ} → z ≡ nodeWords v (suc t * N + b) x (t * N + b) (2 ^ t)
+          → soft z (suc t * N + b) (2 ^ suc t) ≡ toNode (2 ^ t) (soft w x (2 ^ suc t)) (message A) (message B)
+      unfolding soft toNode
+      own-message {z} e =
+          let half : List ℤ = write v (suc t * N + b) (2 ^ t) (lowHalf v x (t * N + b) (2 ^ t)) in
+          sym (tabulate-halves t (λ k. softOf (word z (suc t * N + b + k))) _ _
+          (λ k lt. sym (ap softOf (source-below (pos 0) half z (suc t * N + b + 2 ^ t) (2 ^ t) _ (suc t * N + b + k) e (omega arith)) ∙ low-half half refl k lt))
+          (λ k lt. sym (ap (λ (i : ℕ). softOf (word z i)) (let q : suc t * N + b + (k + 2 ^ t) ≡ suc t * N + b + 2 ^ t + k = omega arith in q)
+          ∙ high-half half z (length-write (pos 0) v (suc t * N + b) (2 ^ t) _) e k lt)))
+
+-- the node's message is stored: both halves are in its own row
+pub mid-node : {tree : List ℤ → ℕ → Tree} {N t b x : ℕ} {w v : List ℤ} {A B : Tree} → Visiting tree N t b x w → Mid tree N t b x w v A B → {z : List ℤ}
+    → z ≡ nodeWords v (suc t * N + b) x (t * N + b) (2 ^ t) → Mid tree N t b x w z A B
+mid-node {N = N} {t = t} {b = b} {x = x} {v = v} begin m {z} e =
+    mid-row begin (mid-row begin m (write v (suc t * N + b) (2 ^ t) (lowHalf v x (t * N + b) (2 ^ t))) (suc t * N + b) _ refl (omega arith) (omega arith)) z (suc t * N + b + 2 ^ t) _ e
+    (omega arith) (omega arith)

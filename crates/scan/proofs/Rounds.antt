@@ -83,12 +83,12 @@ module _ {plan mask : List ℕ} {N t : ℕ} {first : Bool} {w : List ℤ} (r : R
       }
 
 -- one sweep more
-sweeps-more : (f : Tree → Tree) (k : ℕ) (P : Tree) → sweeps f (suc k) P ≡ f (sweeps f k P)
+pub sweeps-more : (f : Tree → Tree) (k : ℕ) (P : Tree) → sweeps f (suc k) P ≡ f (sweeps f k P)
 unfolding sweeps
 sweeps-more f zero P = refl
 sweeps-more f (suc k) P = sweeps-more f k (f P)
 
-sweeps-one : (f : Tree → Tree) (P : Tree) → sweeps f 1 P ≡ f P
+pub sweeps-one : (f : Tree → Tree) (P : Tree) → sweeps f 1 P ≡ f P
 unfolding sweeps
 sweeps-one f P = refl
 
@@ -159,13 +159,22 @@ tabulate-map f (x ∷ l) d = ap (λ xs. f x ∷ xs) (tabulate-map f l d)
 pub small-list : {plan mask : List ℕ} {llrs : List ℤ} {count N t out words : ℕ} → Decodable plan mask llrs count N t out words → SmallAll t maxLlr (map finite llrs)
 small-list {llrs = llrs} can k lt = subst (Small maxLlr) (sym (List·getD-map finite llrs k (pos 0))) (can .small k (omega (arith, can .size)))
 
+-- the first n words are zero; those past them are as they were, and so are they afterwards
+pub cleared-from : (w w₂ : List ℤ) (n : ℕ) → n ≤ length w → length w₂ ≡ length w → ((j : ℕ) → n ≤ j → word w₂ j ≡ word w j) → (v : List ℤ) → v ≡ write w₂ 0 n (λ k. pos 0)
+    → v ≡ write w 0 n (λ k. pos 0)
+cleared-from w w₂ n fit long past v e =
+    write-is (pos 0) w v 0 n (λ k. pos 0) (ap length e ∙ length-write (pos 0) w₂ 0 n _ ∙ long) (omega arith)
+    (λ k lt. stored-at w₂ v 0 n (λ k. pos 0) k e lt (omega (arith, long)))
+    (λ j lt. absurd (omega arith))
+    (λ j le. source-above (pos 0) w₂ v 0 n _ j e le ∙ past j (omega arith))
+
 -- ---- the steps of a decode
 module _ (plan mask : List ℕ) (llrs : List ℤ) (count N t : ℕ) (out w w₁ : List ℤ) (can : Decodable plan mask llrs count N t (length out) (length w))
     (e₁ : w₁ ≡ write w (N * (t + 1)) (length llrs) (word llrs)) where
   pub long₁ : length w₁ ≡ length w
   long₁ = ap length e₁ ∙ length-write (pos 0) w (N * (t + 1)) (length llrs) _
 
-  loaded : soft w₁ (N * (t + 1)) N ≡ map finite llrs
+  pub loaded : soft w₁ (N * (t + 1)) N ≡ map finite llrs
   unfolding soft
   loaded =
       ap (λ (n : ℕ). tabulate n (λ k. softOf (word w₁ (N * (t + 1) + k)))) (sym (can .values))
@@ -201,11 +210,5 @@ module _ (plan mask : List ℕ) (llrs : List ℤ) (count N t : ℕ) (out w w₁ 
 
     -- the words lent are zero, and those past them as they were
     pub cleared : (v : List ℤ) → v ≡ write w₂ 0 (N * (t + 3)) (λ k. pos 0) → v ≡ write w 0 (N * (t + 3)) (λ k. pos 0)
-    cleared v e = write-is (pos 0) w v 0 (N * (t + 3)) (λ k. pos 0)
-        (ap length e ∙ length-write (pos 0) w₂ 0 (N * (t + 3)) _ ∙ s .long ∙ long₁)
-        (omega (arith, can .room))
-        (λ k lt. stored-at w₂ v 0 (N * (t + 3)) (λ k. pos 0) k e lt (omega (arith, can .room, s .long, long₁)))
-        (λ j lt. absurd (omega arith))
-        (λ j le. source-above (pos 0) w₂ v 0 (N * (t + 3)) _ j e le
-        ∙ s .past j (omega arith)
-        ∙ source-above (pos 0) w w₁ (N * (t + 1)) (length llrs) _ j e₁ (omega (arith, row-start N t 1, row-start N t 3, can .values)))
+    cleared = cleared-from w w₂ (N * (t + 3)) (can .room) (s .long ∙ long₁)
+        (λ j le. s .past j le ∙ source-above (pos 0) w w₁ (N * (t + 1)) (length llrs) _ j e₁ (omega (arith, row-start N t 1, row-start N t 3, can .values)))

@@ -4,33 +4,31 @@ use mathlib.Core.Bool.{Bool, true, false, cond, _&&_, _||_}
 use lib.IntN.{ℤ, pos}
 use mathlib.Core.List.{List, []}
 use Prim.Native.Nat.{ℕ, zero, suc, _+_, _-_, _*_, _/_, _^_, _≤_}
-use native.Mathlib.Nat.{suc-mul, mul-add, mul-assoc, mul-comm, mul-le-mul-left, mul-le-mul-right, add-mul}
+use native.Mathlib.Nat.{suc-mul, mul-add, mul-assoc, add-mul}
 use native.Mathlib.Omega.{arith}
 use lib.Dec.{T}
 use mathlib.Core.Option.{Option, none, some}
-use lib.Pow.{pow-pos}
 use lib.ListN.{length, take, drop}
-use Rattle.model.specs.Soft.{Soft, certain, softZero, _at_, mark, softOf}
-use Rattle.model.specs.Scan.{Tree, node, message, left, right, toLeft, toRight, toNode}
+use Rattle.model.specs.Soft.{Soft, certain, softZero, _at_, mark}
+use Rattle.model.specs.Scan.{Tree, node, message, left, right, toLeft, toRight}
 use Rattle.model.specs.Kinds.{isSome, Kind, rate-0, rate-1, REP, SPC, type-I, type-III, type-II, type-IV, kindOf, shortcut}
 use Rattle.model.specs.Encoding.{frozenToZero}
 use Rattle.model.specs.Plans.{isRate01, isCut, wellCut, walk}
-use Rattle.model.specs.Bounds.{limit, SmallAll, UnderAll, Held, cap}
-use Rattle.model.proofs.Lists.{absurd-bool, double, tabulate-halves, and-l, and-r}
+use Rattle.model.specs.Bounds.{SmallAll, UnderAll, Held, cap}
+use Rattle.model.proofs.Lists.{absurd-bool, double, and-l, and-r}
 use Rattle.model.proofs.PlannedWalk.{descend}
 use Rattle.model.proofs.FrozenPositions.{toZero-l, toZero-r, cuts-alike}
 use Rattle.model.proofs.FlippedWalk.{putColumn, plain-cut, plain-through}
 use Rattle.model.proofs.Paths.{wellCut-cut, wellCut-through, paths-of, of-paths}
-use Rattle.model.proofs.Bounds.{ones-none, cap-suc, small-toLeft, small-toRight, held-walk, held-message}
-use Rattle.words.specs.Words.{Holds, word, soft, write, Words}
-use Rattle.halves.specs.Halves.{boxAt, boxPlus, plusBox, Sums, FiniteBoxSums, Combinable, RightListAt, lowHalf, nodeWords}
-use Rattle.words.proofs.Store.{source-below, length-write}
+use Rattle.model.proofs.Bounds.{ones-none, small-toLeft, small-toRight, held-walk, held-message}
+use Rattle.words.specs.Words.{Holds, soft, write, Words}
+use Rattle.halves.specs.Halves.{boxAt, boxPlus, plusBox, Sums, FiniteBoxSums, Combinable, RightListAt, nodeWords}
 use Rattle.kinds.specs.Known.{FixedAs}
 use Rattle.model.specs.Lists.{part}
 use Rattle.scan.specs.Space.{constant, treeAt, begun, frozenPart, Room, Visited}
-use Rattle.scan.proofs.Keep.{Fit, node-path, part-left, part-right}
+use Rattle.scan.proofs.Keep.{Fit, node-path, tree-cong, message-at, part-left, part-right}
 use Rattle.scan.proofs.Begun.{begun-left, begun-right, begun-zero, leaf-constant}
-use Rattle.scan.proofs.Mids.{Mid, Visiting, mid-start, mid-scratch, mid-row, mid-left, mid-right, words-list, words-high, words-left, right-sums, right-stays, right-list, left-sums, left-list, left-list-zero, in-range, low-half, high-half, left-holds, right-holds}
+use Rattle.scan.proofs.Mids.{Mid, Reads, Visiting, sum-limit, double-limit, child-limit, mid-start, mid-scratch, mid-node, mid-left, mid-right, words-list, words-high, words-left, right-sums, right-stays, right-list, left-sums, left-list, left-list-zero, in-range, own-message, left-holds, right-holds}
 use Rattle.scan.proofs.Known.{both-true, fixed-constant, walk-certain, walk-zero}
 
 -- ---- the stores of an uncut visit: h is half the size, u the stage below, c the place of the child's incoming list
@@ -116,6 +114,10 @@ well-alike plan t p mask w = let q = paths-of plan t p mask w in of-paths plan t
 pub fit-room : {plan mask : List ℕ} {N t s p b x : ℕ} {first : Bool} {w : List ℤ} → Room plan mask N t s p b x first w → Fit N t b x (length w)
 fit-room r = record { fit = omega (arith, r .size, r .fit); rows = r .rows; within = omega (arith, r .size, r .within) }
 
+-- words as the trees of a stage
+tree-reads : (N t : ℕ) → Reads N t (λ v b. treeAt N v t b)
+tree-reads N t = record { cong = λ b w v same. tree-cong N t b w v same; row-is = λ b w k lt. message-at N t b w k lt }
+
 module _ (plan mask : List ℕ) (N t s p b x : ℕ) (first : Bool) (w : List ℤ) (room : Room plan mask N (suc t) s p b x first w) (uncut : isCut plan p ≡ false) where
   abbrev h : ℕ
   h = 2 ^ t
@@ -141,6 +143,9 @@ module _ (plan mask : List ℕ) (N t s p b x : ℕ) (first : Bool) (w : List ℤ
 
   abbrev stored-right : Tree
   stored-right = treeAt N w t (b + 2 ^ t)
+
+  abbrev trees : List ℤ → ℕ → Tree
+  trees v b′ = treeAt N v t b′
 
   -- what the sweep takes for the children's states
   abbrev left-before : Tree
@@ -182,23 +187,8 @@ module _ (plan mask : List ℕ) (N t s p b x : ℕ) (first : Bool) (w : List ℤ
       b₀ : ℕ
       b₀ = b
 
-  -- bounds
-  sum-limit : bound + cap t (2 * bound) ≤ limit
-  sum-limit =
-      let e : cap (suc t) bound ≡ bound + cap t (2 * bound) = cap-suc t bound in
-      let m : (2 ^ suc t - 1) * bound ≤ 2 ^ suc t * bound = mul-le-mul-right bound (omega arith) in
-      omega (arith, room .limited, mul-comm (2 ^ suc t) bound)
-
-  double-limit : 2 * bound ≤ limit
-  double-limit =
-      let q : 2 ≤ 2 ^ suc t = omega (arith, twice, pow-pos t) in
-      omega (arith, room .limited, mul-le-mul-left bound q)
-
-  child-limit : 2 * bound * 2 ^ t ≤ limit
-  child-limit = omega (arith, room .limited, ap (λ (z : ℕ). bound * z) twice, mul-add bound (2 ^ t) (2 ^ t), mul-assoc 2 bound (2 ^ t))
-
-  abbrev begin : Visiting N t b x w
-  begin = record { fit = fits; bound = bound; small = incoming-small; limited = sum-limit; doubled = double-limit }
+  abbrev begin : Visiting trees N t b x w
+  begin = record { reads = tree-reads N t; fit = fits; bound = bound; small = incoming-small; limited = sum-limit t bound (room .limited); doubled = double-limit t bound (room .limited) }
 
   -- cuts below
   children-cuts : T (wellCut plan t (2 * p) (take (2 ^ t) (part mask b (2 ^ suc t))) && wellCut plan t (2 * p + 1) (drop (2 ^ t) (part mask b (2 ^ suc t))))
@@ -234,8 +224,8 @@ module _ (plan mask : List ℕ) (N t s p b x : ℕ) (first : Bool) (w : List ℤ
   right-under = held-message false plan t (2 * p + 1) (2 * bound) right-after right-held
 
   -- ---- the words after each step
-  mid₀ : Mid N t b x w w stored-left stored-right
-  mid₀ = mid-start N t b x w
+  mid₀ : Mid trees N t b x w w stored-left stored-right
+  mid₀ = mid-start trees N t b x w
 
   -- what the visit of a child q with the positions from b′ on requires
   child-room : {q b′ : ℕ} {v : List ℤ} → length v ≡ length w → b ≤ b′ → b′ + h ≤ b + (h + h) → (q + 1) * h ≤ length plan → T (wellCut plan t q (part mask b′ (2 ^ t)))
@@ -250,7 +240,7 @@ module _ (plan mask : List ℕ) (N t s p b x : ℕ) (first : Bool) (w : List ℤ
     masked = omega (arith, room .masked, room .size, twice);
     cuts = cuts;
     bound = 2 * bound;
-    limited = child-limit;
+    limited = child-limit t bound (room .limited);
     small = small;
     held = held;
   }
@@ -270,11 +260,11 @@ module _ (plan mask : List ℕ) (N t s p b x : ℕ) (first : Bool) (w : List ℤ
     no-leaf q z = absurd-bool (constant plan h (2 * p) left-mask) (subst (λ (u : ℕ). T (wellCut plan u (2 * p) (part mask b (2 ^ u))) → constant plan (2 ^ u) (2 * p) (part mask b (2 ^ u)) ≡ true) (sym z) (leaf-constant plan (2 * p) (part mask b (2 ^ 0))) left-cuts) (sym skip₁ ∙ q)
 
     module _ {w₁ : List ℤ} (e₁ : LeftList N b x h t c first (a₁ || z₁) w w₁) where
-      mid₁ : Mid N t b x w w₁ stored-left stored-right
+      mid₁ : Mid trees N t b x w w₁ stored-left stored-right
       mid₁ = go (a₁ || z₁) e₁
         where
-          go : (s : Bool) → LeftList N b x h t c first s w w₁ → Mid N t b x w w₁ stored-left stored-right
-          go true e = subst (λ (z : List ℤ). Mid N t b x w z stored-left stored-right) (sym e) mid₀
+          go : (s : Bool) → LeftList N b x h t c first s w w₁ → Mid trees N t b x w w₁ stored-left stored-right
+          go true e = subst (λ (z : List ℤ). Mid trees N t b x w z stored-left stored-right) (sym e) mid₀
           go false e = mid-scratch begin mid₀ w₁ _ e
 
       left-list-is : (a₁ || z₁) ≡ false → soft w₁ c h ≡ toLeft h incoming (message right-before)
@@ -299,19 +289,19 @@ module _ (plan mask : List ℕ) (N t s p b x : ℕ) (first : Bool) (w : List ℤ
       left-walk true q = walk-constant plan t (2 * p) left-mask left-before (soft w₁ c h) (toLeft h incoming (message right-before)) (sym skip₁ ∙ q)
       left-walk false q = ap (walk plan t (2 * p) (frozenToZero left-mask) left-before) (left-list-is q)
 
-      mid₂ : {w₂ : List ℤ} → Visited plan mask N t (2 * p) b c first w₁ w₂ → Mid N t b x w w₂ left-after stored-right
-      mid₂ {w₂} done = subst (λ (T : Tree). Mid N t b x w w₂ T stored-right) (left-walk (a₁ || z₁) refl) (mid-left begin mid₁ plan mask (2 * p) first w₂ done)
+      mid₂ : {w₂ : List ℤ} → Visited plan mask N t (2 * p) b c first w₁ w₂ → Mid trees N t b x w w₂ left-after stored-right
+      mid₂ {w₂} done = subst (λ (T : Tree). Mid trees N t b x w w₂ T stored-right) (left-walk (a₁ || z₁) refl) (mid-left begin mid₁ (done .kept) (done .tree ∙ ap (λ (T : Tree). walk plan t (2 * p) (frozenToZero left-mask) (begun first plan t (2 * p) (frozenToZero left-mask) T) (soft w₁ c h)) (mid₁ .lefts)))
 
-    module _ {w₂ : List ℤ} (mid : Mid N t b x w w₂ left-after stored-right) {a₃ z₃ : Bool} (known₃ : Known plan mask h (2 * p + 1) (b + h) a₃ z₃) where
+    module _ {w₂ : List ℤ} (mid : Mid trees N t b x w w₂ left-after stored-right) {a₃ z₃ : Bool} (known₃ : Known plan mask h (2 * p + 1) (b + h) a₃ z₃) where
       skip₃ : (a₃ || z₃) ≡ constant plan h (2 * p + 1) right-mask
       skip₃ = fixed-constant plan h (2 * p + 1) right-mask a₃ z₃ known₃
 
       module _ {w₃ : List ℤ} (e₃ : RightList N b x h t c (a₃ || z₃) w₂ w₃) where
-        mid₃ : Mid N t b x w w₃ left-after stored-right
+        mid₃ : Mid trees N t b x w w₃ left-after stored-right
         mid₃ = go (a₃ || z₃) e₃
           where
-            go : (s : Bool) → RightList N b x h t c s w₂ w₃ → Mid N t b x w w₃ left-after stored-right
-            go true e = subst (λ (z : List ℤ). Mid N t b x w z left-after stored-right) (sym e) mid
+            go : (s : Bool) → RightList N b x h t c s w₂ w₃ → Mid trees N t b x w w₃ left-after stored-right
+            go true e = subst (λ (z : List ℤ). Mid trees N t b x w z left-after stored-right) (sym e) mid
             go false e = mid-scratch begin mid w₃ _ e
 
         stored₃ : (a₃ || z₃) ≡ false → w₃ ≡ write w₂ c h (plusBox w₂ x (t * N + b) (x + h))
@@ -331,34 +321,17 @@ module _ (plan mask : List ℕ) (N t s p b x : ℕ) (first : Bool) (w : List ℤ
         right-walk false q = ap (walk plan t (2 * p + 1) (frozenToZero right-mask) right-before) (right-list-is q)
 
         module _ {w₄ : List ℤ} (done : Visited plan mask N t (2 * p + 1) (b + h) c first w₃ w₄) where
-          mid₄ : Mid N t b x w w₄ left-after right-after
-          mid₄ = subst (λ (T : Tree). Mid N t b x w w₄ left-after T) (right-walk (a₃ || z₃) refl) (mid-right begin mid₃ plan mask (2 * p + 1) first w₄ done)
-
-          -- the first half of the message
-          half-stored : List ℤ
-          half-stored = write w₄ (suc t * N + b) h (lowHalf w₄ x (t * N + b) h)
-
-          mid-half : Mid N t b x w half-stored left-after right-after
-          unfolding half-stored
-          mid-half = mid-row begin mid₄ half-stored (suc t * N + b) _ refl (omega arith) (omega arith)
+          mid₄ : Mid trees N t b x w w₄ left-after right-after
+          mid₄ = subst (λ (T : Tree). Mid trees N t b x w w₄ left-after T) (right-walk (a₃ || z₃) refl) (mid-right begin mid₃ (done .kept) (done .tree ∙ ap (λ (T : Tree). walk plan t (2 * p + 1) (frozenToZero right-mask) (begun first plan t (2 * p + 1) (frozenToZero right-mask) T) (soft w₃ c h)) (mid₃ .rights)))
 
           module _ {w₅ : List ℤ} (e₅ : w₅ ≡ nodeWords w₄ (suc t * N + b) x (t * N + b) h) where
-            mid₅ : Mid N t b x w w₅ left-after right-after
-            unfolding half-stored
-            mid₅ = mid-row begin mid-half w₅ (suc t * N + b + h) _ e₅ (omega arith) (omega arith)
-
-            message-is : soft w₅ (suc t * N + b) (2 ^ suc t) ≡ toNode h incoming (message left-after) (message right-after)
-            unfolding soft toNode half-stored
-            message-is = sym (tabulate-halves t (λ k. softOf (word w₅ (suc t * N + b + k))) _ _
-                (λ k lt. sym (ap softOf (source-below (pos 0) half-stored w₅ (suc t * N + b + h) h _ (suc t * N + b + k) e₅ (omega arith))
-                ∙ low-half begin mid₄ right-under left-under half-stored refl k lt))
-                (λ k lt. sym (ap (λ (i : ℕ). softOf (word w₅ i)) (let q : suc t * N + b + (k + h) ≡ suc t * N + b + h + k = omega arith in q)
-                ∙ high-half begin mid₄ right-under left-under half-stored w₅ (length-write (pos 0) w₄ (suc t * N + b) h _) e₅ k lt)))
+            mid₅ : Mid trees N t b x w w₅ left-after right-after
+            mid₅ = mid-node begin mid₄ e₅
 
             node-visited : Visited plan mask N (suc t) p b x first w w₅
             unfolding treeAt
             node-visited = record {
-              tree = node-path message-is (mid₅ .lefts) (mid₅ .rights)
+              tree = node-path (own-message begin mid₄ right-under left-under e₅) (mid₅ .lefts) (mid₅ .rights)
                   ∙ sym (plain-through plan t p (part mask b (2 ^ suc t)) node-before incoming uncut
                   ∙ ap₂ (λ (q r : List ℕ). descend (walk plan t (2 * p) (frozenToZero q)) (walk plan t (2 * p + 1) (frozenToZero r)) (2 ^ t) node-before incoming) (part-left mask b t) (part-right mask b t)
                   ∙ ap₂ (λ (X Y : Tree). descend (walk plan t (2 * p) (frozenToZero left-mask)) (walk plan t (2 * p + 1) (frozenToZero right-mask)) (2 ^ t) (node [] X Y) incoming) before-left before-right);
@@ -366,13 +339,13 @@ module _ (plan mask : List ℕ) (N t s p b x : ℕ) (first : Bool) (w : List ℤ
             }
 
     -- what the left child's message is known to be
-    left-certain : {v : List ℤ} {B : Tree} → Mid N t b x w v left-after B → a₁ ≡ true → Holds v (t * N + b) h (λ k. pos mark)
+    left-certain : {v : List ℤ} {B : Tree} → Mid trees N t b x w v left-after B → a₁ ≡ true → Holds v (t * N + b) h (λ k. pos mark)
     left-certain mid q = left-holds begin mid certain (walk-certain plan t (2 * p) left-mask left-before (toLeft h incoming (message right-before)) a₁ z₁ known₁ q)
 
-    both-done : {w₂ : List ℤ} (mid : Mid N t b x w w₂ left-after stored-right) {a₃ z₃ : Bool} (known₃ : Known plan mask h (2 * p + 1) (b + h) a₃ z₃) {w₄ : List ℤ}
+    both-done : {w₂ : List ℤ} (mid : Mid trees N t b x w w₂ left-after stored-right) {a₃ z₃ : Bool} (known₃ : Known plan mask h (2 * p + 1) (b + h) a₃ z₃) {w₄ : List ℤ}
         → RightDone plan mask N p b x h t c first (a₃ || z₃) w₂ w₄ → AfterRight plan mask N (suc t) p b x first w h t c a₁ a₃ z₃ w₄
     both-done {w₂} mid {a₃} {z₃} known₃ {w₄} d =
-        let here : Mid N t b x w w₄ left-after right-after = mid₄ mid known₃ (d .stored) (d .visited) in
+        let here : Mid trees N t b x w w₄ left-after right-after = mid₄ mid known₃ (d .stored) (d .visited) in
         record {
           message-asked = (
             in-range begin here right-under left-under,
@@ -389,7 +362,7 @@ module _ (plan mask : List ℕ) (N t s p b x : ℕ) (first : Bool) (w : List ℤ
 
     left-done : {w₂ : List ℤ} → LeftDone plan mask N p b x h t c first (a₁ || z₁) w w₂ → AfterLeft plan mask N (suc t) p b x first w h t c a₁ w₂
     left-done {w₂} d =
-        let here : Mid N t b x w w₂ left-after stored-right = mid₂ (d .stored) (d .visited) in
+        let here : Mid trees N t b x w w₂ left-after stored-right = mid₂ (d .stored) (d .visited) in
         record {
           list-asked = ((words-list begin here, words-left begin here left-under, right-sums begin here left-under), left-certain here);
           right-room = λ known₃ e₃. room-right here known₃ e₃;

@@ -93,7 +93,8 @@ fn cut_node(work: &mut [i32], mask: &[u8], m: usize, x: usize, from: usize, size
     cut_message(work, k, m, x, size);
 }
 
-fn is_frozen(byte: u8) -> bool
+// Whether a position is frozen, whatever to.
+pub fn is_frozen(byte: u8) -> bool
     ensures { λ r. ⌜ r ≡ not (isUnfrozen byte) ⌝ }
 {
     byte != UNFROZEN
@@ -204,7 +205,7 @@ pub fn sweeps(work: &mut [i32], plan: &[u8], mask: &[u8], len: usize, stage: usi
 }
 
 // The LLRs as the root's incoming list, at `list`, negated where the word of the frozen values has a 1. Without `ones` it has none, and is not read.
-fn load(work: &mut [i32], list: usize, llrs: &[i16], known: &[u8], ones: bool)
+pub fn load(work: &mut [i32], list: usize, llrs: &[i16], known: &[u8], ones: bool)
     requires { ⌜ (list + length (now llrs) ≤ length (now work)) × (length (now known) ≡ length (now llrs)) ⌝ }
     ensures { λ _. ⌜ now (work .exit) ≡ write (now (work .entry)) list (length (now (llrs .entry))) (word (flippedIf ones (now (known .entry)) (now (llrs .entry)))) ⌝ }
 {
@@ -229,7 +230,7 @@ fn unload(work: &[i32], x: usize, out: &mut [i32], known: &[u8], ones: bool)
 }
 
 // The word of the frozen values, where some position is frozen to 1.
-fn frozen_word(mask: &[u8], known: &mut [u8], stage: usize, ones: bool)
+pub fn frozen_word(mask: &[u8], known: &mut [u8], stage: usize, ones: bool)
     requires { ⌜ (length (now known) ≡ length (now mask)) × (length (now mask) ≡ 2 ^ stage) ⌝ }
     ensures { λ _. ⌜ now (known .exit) ≡ cond ones (knownWord stage (now (mask .entry))) (now (known .entry)) ⌝ }
 {

@@ -1,0 +1,7 @@
+pub mod Inputs
+pub mod Trees
+pub mod Pairs
+pub mod Twos
+pub mod Runs
+pub mod Stages
+pub mod Rounds
