@@ -2,10 +2,12 @@
 use mathlib.Core.Path.{_≡_}
 use mathlib.Core.List.{List}
 use Prim.Native.Nat.{ℕ, _+_, _*_, _^_}
+use lib.IntN.{ℤ}
 use lib.ListN.{length}
 use Rattle.model.specs.Lists.{over}
 use Rattle.model.specs.Refusals.{accepted, planNumber, planCounts, planCycles, checkNumber, checkCycles, decodeNumber, decodeCycles, decodeCheck, decodeUndecided}
 use Rattle.model.specs.Distance.{distanceNumber, distanceFound}
+use Rattle.model.specs.Attempts.{FlipCall, flipNumber, flipMatched, flipAttempts, flipPayload, flipWork}
 use Rattle.replay.specs.Program.{captureText, totalsNumber}
 use Rattle.decode.specs.Calls.{Lent, Given, callOf, Left}
 
@@ -29,6 +31,12 @@ pub record DecodeAnswer (g : Given) (after : Lent) (r : ℕ) : Type 0 where
 -- a mask for a wanted distance: number + 256 × (1 where a mask was written); room is the length of the mask buffer
 abbrev pub DistanceAnswer : ℕ → ℕ → ℕ → ℕ → ℕ → Type 0
 DistanceAnswer N K d room r = r ≡ distanceNumber N K d room + 256 * distanceFound N K d room
+
+-- a decode with flip attempts: number + 256 × (t of the match, or the number of attempts made) + 2 ^ 40 × (1 for a match); and what it leaves in its buffers
+pub record FlipAnswer (c : FlipCall) (payload payload′ : List ℕ) (work work′ : List ℤ) (r : ℕ) : Type 0 where
+  pub answer-is : r ≡ flipNumber c + 256 * flipAttempts c + 2 ^ 40 * flipMatched c
+  pub payload-is : payload′ ≡ flipPayload c payload
+  pub work-is : work′ ≡ flipWork c work
 
 -- a replay: number + 256 × length of the text; a refused one leaves the buffer
 pub record ReplayAnswer (bytes out after : List ℕ) (r : ℕ) : Type 0 where

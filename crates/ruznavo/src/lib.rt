@@ -10,17 +10,21 @@ use plans::check_plan;
 use replay::replay_totals;
 use samples::Channel;
 use samples::samples_to_llrs;
+use scan_flip::FlipDecoded;
+use scan_flip::decode_flips;
 use transform::transform;
 ghost use mathlib.Core.Path.{_≡_};
 ghost use lib.ListN.{length};
 ghost use Rattle.model.specs.Refusals.{samplesNumber, samplesLlrs, encodeNumber, encodeWord, planBytes};
-ghost use Prim.Native.Nat.{_+_, _*_};
+ghost use Prim.Native.Nat.{_+_, _*_, _^_};
 ghost use Rattle.model.specs.Masks.{weightNumber, weightMaskAfter};
 ghost use Rattle.model.specs.Distance.{distanceMaskAfter};
 ghost use Rattle.masks.specs.Answers.{answerNumber, answerFound};
 ghost use Rattle.transform.specs.Calls.{transformNumber, transformBytes};
 ghost use Rattle.decode.specs.Calls.{lent, given};
-ghost use Rattle.ruznavo.specs.Answers.{CheckAnswer, PlanAnswer, hostCounts, DecodeAnswer, DistanceAnswer, ReplayAnswer};
+ghost use Rattle.scan_flip.specs.Answers as flips;
+ghost use Rattle.scan_flip.specs.Calls.{flipCall};
+ghost use Rattle.ruznavo.specs.Answers.{CheckAnswer, PlanAnswer, hostCounts, DecodeAnswer, DistanceAnswer, FlipAnswer, ReplayAnswer};
 
 // Samples to LLRs, at the noise variance. The answer is the number.
 #[no_mangle]
@@ -134,6 +138,33 @@ pub extern "C" fn ruznavo_mask_for_distance(n: usize, k: usize, d: usize, mask: 
     ensures { λ _. ⌜ now (mask .exit) ≡ distanceMaskAfter n k d (now (mask .entry)) ⌝ }
 {
     distance_answer(mask_for_distance(n, k, d, mask))
+}
+
+// The number of a case + 256 × (its t or the number of attempts made) + 2 ^ 40 × (1 for a match).
+fn flip_answer(answer: FlipDecoded) -> u64
+    ensures { λ r. ⌜ r ≡ flips.answerNumber answer + 256 * flips.answerAttempts answer + 2 ^ 40 * flips.answerMatched answer ⌝ }
+{
+    match answer {
+        FlipDecoded::Matched(t) => 256 * t as u64 + 1099511627776,
+        FlipDecoded::Unmatched(made) => 256 * made as u64,
+        FlipDecoded::Refused(number) => number as u64,
+    }
+}
+
+// A decode with up to `attempts` flip attempts. The answer is number + 256 × (t of the match, or the number of attempts made) + 2 ^ 40 × (1 for a match).
+#[no_mangle]
+pub extern "C" fn ruznavo_flip(
+    mask: &[u8],
+    sweeps: usize,
+    attempts: usize,
+    llrs: &[i16],
+    payload: &mut [u8],
+    work: &mut [i32],
+) -> u64
+    ensures { λ r. ⌜ FlipAnswer (flipCall (now (mask .entry)) sweeps attempts (now (llrs .entry)) (length (now (payload .entry))) (length (now (work .entry))))
+        (now (payload .entry)) (now (payload .exit)) (now (work .entry)) (now (work .exit)) r ⌝ }
+{
+    flip_answer(decode_flips(mask, sweeps, attempts, llrs, payload, work))
 }
 
 // A capture replayed: the text of its totals goes to the front of out. The answer is the number + 256 × the length of the text.
