@@ -18,7 +18,7 @@ A line of the file is one of these, with numbers in hexadecimal digits, three fo
   = NAME                        ends a group of cases"""
 from itertools import combinations
 
-from model import ALLOWED
+from model import ALLOWED, failed
 
 LARGEST = 2 ** 64 - 1
 NOT_ALLOWED = [0, 1, 3, 5, 6, 7, 9, 1000, 1023, 1025, 2048, 65536, 2 ** 32 + 2, 2 ** 63, LARGEST]
@@ -40,11 +40,6 @@ def least_exponents(n):
     """For each K from 1 to N the exponent of the least row weight, 2 to the power of the index's ones, over the first K positions."""
     order = rank_order(n)
     return [min(ones(i) for i in order[:k]) for k in range(1, n + 1)]
-
-
-def failed(tests):
-    """The numbers of the tests that a call fails, in their order."""
-    return tuple(number for number, passed in tests if not passed)
 
 
 def faults(n, k, room):

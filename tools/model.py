@@ -1,5 +1,5 @@
 """What document 01 and the requests in document 02 say about a frame, for the scripts that write test vectors: SCAN walked to the last leaf,
-the hard word and what follows from it, the planner's cycles, and masks drawn in several ways."""
+the hard word and what follows from it, the planner's cycles, the numbers of failed tests, and masks drawn in several ways."""
 import random
 
 CERTAIN = float('inf')   # of a 0; -CERTAIN is certain of a 1
@@ -23,15 +23,17 @@ def plus(a, b):
     return total
 
 
-def scan(mask, llrs, sweeps):
-    """The root's message after the last sweep."""
+def walked(mask, llrs, sweeps):
+    """The root's message after the last sweep, and the values with which that sweep visits the leaves."""
     n = len(mask)
+    leaves = [0] * n
     message = {n + i: [(0, CERTAIN, -CERTAIN)[byte]] for i, byte in enumerate(mask)}
     for p in range(1, n):
         message[p] = [0] * (n >> p.bit_length() - 1)
 
     def visit(p, incoming):
         if p >= n:
+            leaves[p - n] = incoming[0]
             return
         h = len(incoming) // 2
         first, second = incoming[:h], incoming[h:]
@@ -44,7 +46,7 @@ def scan(mask, llrs, sweeps):
 
     for _ in range(sweeps):
         visit(1, llrs)
-    return message[1]
+    return message[1], leaves
 
 
 def transform(u):
@@ -62,6 +64,10 @@ def placed(mask, bits):
     return [int(byte == 2) if byte else next(rest) for byte in mask]
 
 
+def payload_of(mask, bits):
+    return [bit for bit, byte in zip(bits, mask) if not byte]
+
+
 def hard_bit(total):
     """The bit of LLR plus soft value."""
     if total == 0:
@@ -71,18 +77,22 @@ def hard_bit(total):
 
 def decoded(mask, sweeps, llrs):
     """The soft values, the hard word, its payload, its frozen check, and how many of its bits are undecided."""
-    soft = scan(mask, llrs, sweeps)
+    soft, _ = walked(mask, llrs, sweeps)
     hard = [hard_bit(plus(llr, x)) for llr, x in zip(llrs, soft)]
     if UNDECIDED in hard:
         return soft, hard, [UNDECIDED for byte in mask if not byte], 0, hard.count(UNDECIDED)
     u = transform(hard)
-    payload = [bit for bit, byte in zip(u, mask) if not byte]
     check = int(all(bit == (byte == 2) for bit, byte in zip(u, mask) if byte))
-    return soft, hard, payload, check, 0
+    return soft, hard, payload_of(mask, u), check, 0
 
 
 def digits_of(bits):
     return ''.join(map(str, bits))
+
+
+def failed(tests):
+    """The numbers of the tests that a call fails, in their order."""
+    return tuple(number for number, passed in tests if not passed)
 
 
 # ---- the planner's plan and its cycles

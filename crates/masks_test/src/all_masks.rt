@@ -4,7 +4,6 @@
 // positions, a payload the set of the positions that it sets to 1, a word or a row the set of its ones. There are `sets` of them, 2 ^ N.
 use crate::distances::right_mask;
 use crate::distances::right_none;
-use crate::fields::value_at;
 use test_tools::numbers::least;
 use test_tools::numbers::length_of;
 use test_tools::numbers::minus;
@@ -13,6 +12,7 @@ use test_tools::report::end_line;
 use test_tools::report::print_values;
 use test_tools::tally::Count;
 use test_tools::tally::sum;
+use test_tools::texts::value_at;
 ghost use Prim.Native.Nat.{_≤_, _<_};
 
 // ---- sets

@@ -2,13 +2,13 @@
 use crate::distances::right_mask;
 use crate::distances::right_none;
 use crate::fields::exponent_at;
-use crate::fields::value_at;
 use test_tools::numbers::least;
 use test_tools::numbers::length_of;
 use test_tools::numbers::one_if;
 use test_tools::tally::Count;
 use test_tools::tally::sum;
 use test_tools::tally::zero;
+use test_tools::texts::value_at;
 ghost use Prim.Native.Nat.{_≤_};
 
 // A mask is there for d and for 1, and none for d + 1, for 2 ^ 32 and for 2 ^ 64 - 1.

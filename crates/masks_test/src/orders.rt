@@ -2,12 +2,12 @@
 use crate::calls::FILLER;
 use crate::calls::right;
 use crate::fields::position_at;
-use crate::fields::value_at;
 use test_tools::buffers::Bytes;
 use test_tools::numbers::least;
 use test_tools::numbers::one_if;
 use test_tools::tally::Count;
 use test_tools::tally::sum;
+use test_tools::texts::value_at;
 ghost use Prim.Native.Nat.{_≤_};
 
 // The first n positions frozen, and fillers behind them.

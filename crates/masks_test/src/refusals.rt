@@ -2,9 +2,9 @@
 use crate::calls::FILLER;
 use crate::calls::right;
 use crate::distances::right_answer;
-use crate::fields::value_at;
 use test_tools::numbers::one_if;
 use test_tools::tally::Count;
+use test_tools::texts::value_at;
 
 // A line is call N K ROOM NUMBER.
 pub fn run_call(line: &[u8]) -> Count {

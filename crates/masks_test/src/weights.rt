@@ -1,11 +1,11 @@
 // Row weights, compared with the ones of the matrix's rows and with each other along the order.
 use crate::fields::position_at;
-use crate::fields::value_at;
 use test_tools::numbers::least;
 use test_tools::numbers::one_if;
 use test_tools::report::end_line;
 use test_tools::report::print_values;
 use test_tools::tally::Count;
+use test_tools::texts::value_at;
 ghost use Prim.Native.Nat.{_<_};
 
 // ---- against the matrix

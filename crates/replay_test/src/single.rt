@@ -8,6 +8,7 @@ use test_tools::numbers::bit_if;
 use test_tools::numbers::least;
 use test_tools::numbers::minus;
 use test_tools::numbers::one_if;
+use test_tools::numbers::signed;
 use test_tools::texts::part;
 use test_tools::texts::put;
 use test_tools::texts::put_all;
@@ -22,15 +23,6 @@ fn word_at(s: &[u8], at: usize) -> usize
 }
 
 // ---- one frame
-
-// From 32768 on a number is negative: all bits of a smaller one turned round.
-fn signed(n: usize) -> i16 {
-    if n < 32768 {
-        n as i16
-    } else {
-        !((minus(65535, n) % 32768) as i16)
-    }
-}
 
 // The number of LLR k.
 fn llr_word(frame: &[u8], k: usize) -> usize

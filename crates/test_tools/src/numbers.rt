@@ -65,6 +65,15 @@ pub fn both(a: bool, b: bool) -> bool {
     if a { b } else { false }
 }
 
+// A 16-bit number as a signed one: from 32768 on it is negative, all bits of a smaller one turned round.
+pub fn signed(n: usize) -> i16 {
+    if n < 32768 {
+        n as i16
+    } else {
+        !((minus(65535, n) % 32768) as i16)
+    }
+}
+
 // The next pseudo-random number (xorshift).
 pub fn next(x: u32) -> u32 {
     let a = x ^ (x << 13);

@@ -1,6 +1,7 @@
-// Parts of texts, the numbers in them, and texts put one behind another. A place outside a text gives an empty part, and what has no room
+// Parts of texts, fields of a line, the numbers in them, and texts put one behind another. A place outside a text gives an empty part, and what has no room
 // is left out, so that no caller has an index to prove.
 use crate::buffers::byte_at;
+use crate::numbers::minus;
 ghost use Prim.Native.Nat.{_≤_, max};
 ghost use lib.ListN.{length};
 
@@ -49,6 +50,36 @@ pub fn number(s: &[u8]) -> u32 {
     }
     n
 }
+
+// ---- fields of a line
+
+// Field k of a line, from 0 on; a space stands between two.
+pub fn field(line: &[u8], k: usize) -> &[u8]
+    requires { ⌜ k ≤ 9 ⌝ }
+{
+    let mut at = 0;
+    let mut i = 0;
+    while i < k {
+        at = find(line, at, b' ') + 1;
+        i += 1;
+    }
+    part(line, at, find(line, at, b' '))
+}
+
+// The number of some digits: those before the last eight are its high half.
+fn value(digits: &[u8]) -> usize {
+    let high = number(part(digits, 0, minus(digits.len(), 8))) as usize;
+    high * 4294967296 + number(digits) as usize
+}
+
+// The number in field k.
+pub fn value_at(line: &[u8], k: usize) -> usize
+    requires { ⌜ k ≤ 9 ⌝ }
+{
+    value(field(line, k))
+}
+
+// ---- texts put one behind another
 
 // Stores a byte, if there is room, and answers the place behind it.
 pub fn put(s: &mut [u8], at: usize, b: u8) -> usize {
