@@ -21,7 +21,12 @@ typedef uint64_t samples_call(const float *samples, size_t samples_length, const
 typedef uint64_t mask_call(size_t n, size_t k, uint8_t *mask, size_t mask_length);
 typedef uint64_t distance_call(size_t n, size_t k, size_t d, uint8_t *mask, size_t mask_length);
 
+typedef uint64_t flip_call(const uint8_t *mask, size_t mask_length, size_t sweeps, size_t attempts,
+                           const int16_t *llrs, size_t llrs_length, uint8_t *payload, size_t payload_length,
+                           int32_t *work, size_t work_length);
+
 decode_call plain_decode, sse2_decode;
+flip_call sse2_flip;
 encode_call plain_encode;
 transform_call plain_transform;
 plan_call plain_plan;

@@ -4,6 +4,7 @@
 //   bench count       calls each routine once for each frame inside count_here, for a profiler that counts there
 #include "baseline.h"
 #include "channel.h"
+#include "reference.h"
 #include "refusals.h"
 #include "replay.h"
 #include "ruznavo.h"
@@ -25,17 +26,18 @@ typedef struct {
     samples_call *samples;
     mask_call *mask_by_weight;
     distance_call *mask_for_distance;
+    flip_call *flip;
 } library;
 
 static const library libraries[LIBRARIES] = {
     {"proved", ruznavo_decode, ruznavo_encode, ruznavo_transform, ruznavo_plan, ruznavo_samples, ruznavo_mask_by_weight,
-     ruznavo_mask_for_distance},
+     ruznavo_mask_for_distance, ruznavo_flip},
     {"plain C", plain_decode, plain_encode, plain_transform, plain_plan, plain_samples, plain_mask_by_weight,
-     plain_mask_for_distance},
-    {"SSE2 C", sse2_decode, NULL, NULL, NULL, NULL, NULL, NULL},
+     plain_mask_for_distance, NULL},
+    {"SSE2 C", sse2_decode, NULL, NULL, NULL, NULL, NULL, NULL, sse2_flip},
 };
 
-typedef enum { DECODE, ENCODE, PLAN, SAMPLES, MARKED, MASK, DISTANCE, TRANSFORM, CHAIN } routine;
+typedef enum { DECODE, ENCODE, PLAN, SAMPLES, MARKED, MASK, DISTANCE, TRANSFORM, CHAIN, FLIP } routine;
 
 // The planner's plan; one near the leaves, which cuts every node of 2 positions that is of a kind; and the one that cuts
 // the leaves.
@@ -50,6 +52,7 @@ typedef struct {
     size_t n, k, sweeps;
     plan_choice plan;
     frozen_choice frozen;
+    size_t attempts; // of flips
 } test_case;
 
 // The channel of a case's frames, and the scale of their LLRs, by which the front end's noise variance is divided.
@@ -115,6 +118,12 @@ static uint8_t mark_at(const test_case *c, size_t i) {
     return i % 8 == 0 ? RUZNAVO_PUNCTURED : RUZNAVO_SENT;
 }
 
+// A payload's last 8 bits become its CRC, but for the last of them, so that what is sent does not match.
+static void spoil_crc(uint8_t *payload, size_t k) {
+    ref_crc_append(payload, k);
+    payload[k - 1] ^= 1;
+}
+
 // The same frames for each case of a code: random payloads.
 static void prepare(const test_case *c, channel way) {
     struct random r = random_case(1, 0);
@@ -126,13 +135,17 @@ static void prepare(const test_case *c, channel way) {
     variance = noise / way.scale;
     for (int f = 0; f < FRAMES; f++) {
         for (size_t i = 0; i < c->k; i++) payloads[f][i] = random_bits(&r) >> 63;
+        if (c->what == FLIP) spoil_crc(payloads[f], c->k);
         if (plain_encode(mask, c->n, payloads[f], c->k, encoded[f], c->n)) fail(c, "no word");
         transmit(&r, encoded[f], as_drawn, c->n, noise, samples[f]);
         if (plain_samples(samples[f], c->n, marks, c->n, variance, llrs[f], c->n)) fail(c, "no LLRs");
     }
 }
 
-static int has_routine(const test_case *c, int which) { return c->what == DECODE || libraries[which].encode != NULL; }
+static int has_routine(const test_case *c, int which) {
+    if (c->what == FLIP) return libraries[which].flip != NULL;
+    return c->what == DECODE || libraries[which].encode != NULL;
+}
 
 static void call(const test_case *c, int which, int f) {
     const library *lib = &libraries[which];
@@ -150,6 +163,10 @@ static void call(const test_case *c, int which, int f) {
     case MARKED: o->answer = lib->samples(samples[f], n, marks, n, variance, o->llrs, n); break;
     case MASK: o->answer = lib->mask_by_weight(n, c->k, o->word, n); break;
     case DISTANCE: o->answer = lib->mask_for_distance(n, c->k, (size_t)f % 32 + 1, o->word, n); break;
+    case FLIP:
+        o->answer = lib->flip(mask, n, c->sweeps, c->attempts, llrs[f], n, o->payload, c->k, o->work,
+                              RUZNAVO_MAX_WORK_WORDS);
+        break;
     case CHAIN:
         lib->samples(samples[f], n, marks, n, variance, o->llrs, n);
         o->answer = lib->decode(mask, n, plan, 2 * n, c->sweeps, o->llrs, n, o->soft, n, o->hard, n, o->payload, c->k,
@@ -254,7 +271,7 @@ static void decode_table(void) {
     if (!counting) puts("   proved/plain  proved/SSE2");
     for (int i = 0; i < 2 * PLANS * CODES; i++) {
         const size_t *code = codes[i / (2 * PLANS)];
-        test_case c = {DECODE, code[0], code[1], i % 2 ? 4 : 1, (plan_choice)(i / 2 % PLANS), ZEROS};
+        test_case c = {DECODE, code[0], code[1], i % 2 ? 4 : 1, (plan_choice)(i / 2 % PLANS), ZEROS, 0};
         double mean[LIBRARIES];
         if (!counting) printf("(%4zu,%3zu) %-10s %4zu", c.n, c.k, plan_names[c.plan], c.sweeps);
         run_case(&c, mean);
@@ -280,10 +297,10 @@ static void ones_table(void) {
     if (!counting) puts("   to 1 / to 0: proved, plain");
     for (int i = 0; i < CODES; i++) {
         size_t n = codes[i][0], k = codes[i][1];
-        ones_rows("planner's, 1", (test_case){DECODE, n, k, 1, PLANNERS, ZEROS});
-        ones_rows("planner's, 4", (test_case){DECODE, n, k, 4, PLANNERS, ZEROS});
-        ones_rows("leaf-only, 1", (test_case){DECODE, n, k, 1, LEAVES, ZEROS});
-        ones_rows("encoder", (test_case){ENCODE, n, k, 0, PLANNERS, ZEROS});
+        ones_rows("planner's, 1", (test_case){DECODE, n, k, 1, PLANNERS, ZEROS, 0});
+        ones_rows("planner's, 4", (test_case){DECODE, n, k, 4, PLANNERS, ZEROS, 0});
+        ones_rows("leaf-only, 1", (test_case){DECODE, n, k, 1, LEAVES, ZEROS, 0});
+        ones_rows("encoder", (test_case){ENCODE, n, k, 0, PLANNERS, ZEROS, 0});
     }
 }
 
@@ -292,11 +309,38 @@ static void other_table(void) {
     heading("Encoder, planner, front end, mask by row weight and for distances from 1 to 32", "routine    code");
     if (!counting) puts("   proved/plain");
     for (int i = 0; i < 6 * CODES; i++) {
-        test_case c = {(routine)(ENCODE + i / CODES), codes[i % CODES][0], codes[i % CODES][1], 0, PLANNERS, ZEROS};
+        test_case c = {(routine)(ENCODE + i / CODES), codes[i % CODES][0], codes[i % CODES][1], 0, PLANNERS, ZEROS, 0};
         double mean[LIBRARIES];
         if (!counting) printf("%-10s (%4zu,%3zu)%5s", names[c.what], c.n, c.k, "");
         run_case(&c, mean);
         if (!counting) printf("   %12.2f\n", mean[PROVED] / mean[PLAIN]), fflush(stdout);
+    }
+}
+
+// The passes of a frame's flip attempts, on the average of all frames: fewer than allowed where one matches by chance.
+static double passes_made(const test_case *c) {
+    double passes = 0;
+    for (int f = 0; f < FRAMES; f++) {
+        call(c, PROVED, f);
+        passes += 1 + ruznavo_attempts(written[PROVED].answer);
+    }
+    return passes / FRAMES;
+}
+
+// Flip attempts on payloads whose CRC does not match, so that the attempts allowed are made.
+static void flip_table(void) {
+    static const size_t attempts[] = {0, 8, 31};
+    heading("Flip attempts", "code       sweeps attempts");
+    if (!counting) puts("   proved/SSE2   ns a pass: proved, SSE2");
+    for (int i = 0; i < 6 * CODES; i++) {
+        test_case c = {FLIP, codes[i / 6][0], codes[i / 6][1], i % 2 ? 4 : 1, PLANNERS, ZEROS, attempts[i % 6 / 2]};
+        double mean[LIBRARIES], passes = 0;
+        if (!counting) printf("(%4zu,%3zu) %6zu %8zu", c.n, c.k, c.sweeps, c.attempts);
+        run_case(&c, mean);
+        if (counting) continue;
+        passes = passes_made(&c);
+        printf("   %11.2f %12.0f %11.0f\n", mean[PROVED] / mean[SSE2], mean[PROVED] / passes, mean[SSE2] / passes);
+        fflush(stdout);
     }
 }
 
@@ -305,7 +349,7 @@ static void chain_table(void) {
     heading("Chain: front end and decoder, planner's plan", "code             sweeps");
     if (!counting) puts("   proved/plain   frames a second   Mbit of payload a second");
     for (int i = 0; i < 2 * CODES; i++) {
-        test_case c = {CHAIN, codes[i / 2][0], codes[i / 2][1], i % 2 ? 4 : 1, PLANNERS, ZEROS};
+        test_case c = {CHAIN, codes[i / 2][0], codes[i / 2][1], i % 2 ? 4 : 1, PLANNERS, ZEROS, 0};
         double mean[LIBRARIES];
         if (!counting) printf("(%4zu,%3zu) %-10s %4zu", c.n, c.k, "", c.sweeps);
         run_case(&c, mean);
@@ -322,7 +366,7 @@ static void word_table(void) {
     if (!counting) puts("   proved/plain");
     for (int i = 0; i < 2 * MAX_STAGE; i++) {
         size_t n = (size_t)2 << i % MAX_STAGE;
-        test_case c = {i < MAX_STAGE ? TRANSFORM : ENCODE, n, n / 2, 0, PLANNERS, ZEROS};
+        test_case c = {i < MAX_STAGE ? TRANSFORM : ENCODE, n, n / 2, 0, PLANNERS, ZEROS, 0};
         double mean[LIBRARIES];
         if (!counting) printf("%-10s %4zu%11s", names[i / MAX_STAGE], n, "");
         run_case(&c, mean);
@@ -335,7 +379,7 @@ static void growth_table(void) {
     if (!counting) puts("   ns / (N log2 N): proved, plain, SSE2");
     for (int stage = 1; stage <= MAX_STAGE; stage++) {
         size_t n = (size_t)1 << stage;
-        test_case c = {DECODE, n, n / 2, 1, PLANNERS, ZEROS};
+        test_case c = {DECODE, n, n / 2, 1, PLANNERS, ZEROS, 0};
         double mean[LIBRARIES], steps = (double)n * stage;
         if (!counting) printf("%-26zu", n);
         run_case(&c, mean);
@@ -352,7 +396,7 @@ static void replay_table(void) {
          "                                         ns a frame\n"
          "N                sweeps   frames    replay   decodes   replay/decodes");
     for (int i = 0; i < 4; i++) {
-        test_case c = {DECODE, i < 2 ? 1024 : 2, i < 2 ? 512 : 1, i % 2 ? 4 : 1, PLANNERS, ZEROS};
+        test_case c = {DECODE, i < 2 ? 1024 : 2, i < 2 ? 512 : 1, i % 2 ? 4 : 1, PLANNERS, ZEROS, 0};
         prepare(&c, noisy);
         compare_replay(mask, c.n, (unsigned)c.sweeps, llrs[0], MAX_N, FRAMES);
         prepare(&c, clear);
@@ -374,6 +418,7 @@ int main(int count, char **words) {
     other_table();
     word_table();
     growth_table();
+    flip_table();
     replay_table();
     return 0;
 }

@@ -15,6 +15,9 @@ enum { REF_MAX_N = 1024, REF_MAX_STAGE = 10, REF_MAX_SWEEPS = 8, REF_KINDS = 8 }
 /* Mask bytes. The kinds of nodes see both frozen ones alike. */
 enum { REF_UNFROZEN = 0, REF_ZERO = 1, REF_ONE = 2 };
 
+/* Of flip attempts: the bits of the CRC, and the most attempts. */
+enum { REF_CRC = 8, REF_MAX_ATTEMPTS = 31 };
+
 /* Of captures: the drains, and the room that is asked for the text of their totals. */
 enum { REF_DRAINS = 64, REF_MAX_REPLAY = 6720 };
 
@@ -61,6 +64,17 @@ int ref_decode(const uint8_t *mask, size_t N, const uint8_t *plan, size_t plan_l
                const int16_t *llrs, size_t llrs_length, int32_t *soft, size_t soft_room, uint8_t *hard,
                size_t hard_room, uint8_t *payload, size_t payload_room, int32_t *work, size_t words, uint32_t *cycles,
                int *check, size_t *undecided);
+
+/* Whether K bits, the first as the highest power, are a multiple of request No. 11's polynomial over bits. */
+int ref_crc_matches(const uint8_t *bits, size_t K);
+
+/* The last 8 of K bits become such that all K are a multiple. */
+void ref_crc_append(uint8_t *bits, size_t K);
+
+/* Flip attempts: whether a pass matched, and which one, or how many attempts were made. work is only measured and
+ * cleared. */
+int ref_flip(const uint8_t *mask, size_t N, size_t sweeps, size_t attempts, const int16_t *llrs, size_t llrs_length,
+             uint8_t *payload, size_t payload_room, int32_t *work, size_t words, int *matched, size_t *tries);
 
 /* The text goes to the front of out; `written` is its length. */
 int ref_replay(const uint8_t *capture, size_t length, uint8_t *out, size_t room, size_t *written);

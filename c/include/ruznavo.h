@@ -22,7 +22,8 @@
  *   mask       N bytes: 0 unfrozen, 1 frozen to zero, 2 frozen to one
  *   plan       2N bytes; byte p belongs to node p of the tree: 1 is the root, 2p and 2p + 1 are the children of p,
  *              N to 2N - 1 the leaves. 1 cuts a node, 0 does not. Byte 0 is 0.
- *   payload    K bytes, one a bit; a decode with an undecided bit writes RUZNAVO_UNDECIDED to each of them
+ *   payload    K bytes, one a bit; a decode with an undecided bit writes RUZNAVO_UNDECIDED to each of them; the
+ *              payload of flip attempts ends with 8 bits of CRC
  *   word       N bytes, one a bit
  *   hard       N bytes, one a bit, RUZNAVO_UNDECIDED where the bit is undecided
  *   llrs       N values from -32767 to 32767; bit 0 is sent as +1, so a positive LLR speaks for bit 0
@@ -69,11 +70,12 @@
  * Answers. Each call answers one number; the functions below take it apart. The refusal number is 0 if the call was
  * accepted. A refused call answers its number with every other result 0 and leaves every buffer as it was, the
  * workspace too. If several causes apply, the lowest number of those that the call tests is answered; the calls for
- * masks and replay test in the order that is given with them.
+ * masks, replay and flip attempts test in the order that is given with them.
  *
- * Stack. At N = 1024 a replay used less than 80 KB, since it holds a decode's buffers, the decoder less than 5 KB, the
- * mask for a distance less than 4.5 KB, the mask by weight less than 2.5 KB, planner and plan check less than 2 KB each,
- * the others less than 200 bytes. `make -C c` measures this (c/test/stack.c), and fails where a call uses more.
+ * Stack. At N = 1024 a replay used less than 80 KB, since it holds a decode's buffers, flip attempts less than 7.5 KB,
+ * the decoder less than 5 KB, the mask for a distance less than 4.5 KB, the mask by weight less than 2.5 KB, planner
+ * and plan check less than 2 KB each, the others less than 200 bytes. `make -C c` measures this (c/test/stack.c), and
+ * fails where a call uses more.
  */
 #ifndef RUZNAVO_H
 #define RUZNAVO_H
@@ -87,14 +89,18 @@ extern "C" {
 
 /* The version of this header and of the library that it belongs to. The shared object's name has the first number. */
 #define RUZNAVO_VERSION_MAJOR 1
-#define RUZNAVO_VERSION_MINOR 9
+#define RUZNAVO_VERSION_MINOR 10
 #define RUZNAVO_VERSION_PATCH 0
-#define RUZNAVO_VERSION "1.9.0"
+#define RUZNAVO_VERSION "1.10.0"
 
 #define RUZNAVO_MIN_N 2
 #define RUZNAVO_MAX_N 1024
 #define RUZNAVO_MAX_SWEEPS 8
 #define RUZNAVO_MAX_LLR 32767
+
+/* Of flip attempts: the most attempts, and the bits of the CRC at the end of the payload. */
+#define RUZNAVO_MAX_ATTEMPTS 31
+#define RUZNAVO_CRC_BITS 8
 
 /* Bytes of the longest capture; and so many that every text of a replay has room. */
 #define RUZNAVO_MAX_CAPTURE 65536
@@ -155,7 +161,9 @@ enum {
     RUZNAVO_BAD_CAPTURE = 14,   /* a capture's trailer or lengths do not fit, or it has more than 65536 bytes */
     RUZNAVO_BAD_DRAIN = 15,     /* a drain number above 63 */
     RUZNAVO_BAD_UNFROZEN = 16,  /* K above N */
-    RUZNAVO_NOTHING_WANTED = 17 /* K or the wanted distance is 0 */
+    RUZNAVO_NOTHING_WANTED = 17, /* K or the wanted distance is 0 */
+    RUZNAVO_NO_CRC = 18,         /* K below 9: no payload bit beside the CRC */
+    RUZNAVO_BAD_ATTEMPTS = 19    /* more than RUZNAVO_MAX_ATTEMPTS attempts */
 };
 
 /* A refusal number's cause in words, for messages. */
@@ -179,6 +187,8 @@ static inline const char *ruznavo_number_name(unsigned number) {
     case RUZNAVO_BAD_DRAIN: return "drain number above 63";
     case RUZNAVO_BAD_UNFROZEN: return "K above N";
     case RUZNAVO_NOTHING_WANTED: return "K or the wanted distance is 0";
+    case RUZNAVO_NO_CRC: return "K below 9";
+    case RUZNAVO_BAD_ATTEMPTS: return "more than 31 attempts";
     default: return "unknown number";
     }
 }
@@ -209,6 +219,12 @@ static inline unsigned ruznavo_check(uint64_t answer) { return (unsigned)(answer
 
 /* The number of undecided bits of a decode's hard word. If it is not 0, there is no payload: its K bytes are 2. */
 static inline unsigned ruznavo_undecided(uint64_t answer) { return (unsigned)(answer >> 41); }
+
+/* Whether a payload of flip attempts matched its CRC: 1, or 0 for none and for a refused call. */
+static inline unsigned ruznavo_matched(uint64_t answer) { return (unsigned)(answer >> 40 & 1); }
+
+/* The attempt that matched, 0 for the first pass; where none matched, the number of attempts made. */
+static inline unsigned ruznavo_attempts(uint64_t answer) { return (unsigned)(answer >> 8 & 255); }
 
 /*
  * Received samples to LLRs: 2y / v, rounded to the nearest whole number, halves away from zero, within +-32767.
@@ -264,6 +280,29 @@ uint64_t ruznavo_check_plan(const uint8_t *mask, size_t mask_length, const uint8
 uint64_t ruznavo_decode(const uint8_t *mask, size_t mask_length, const uint8_t *plan, size_t plan_length, size_t sweeps,
                         const int16_t *llrs, size_t llrs_length, int32_t *soft, size_t soft_length, uint8_t *hard,
                         size_t hard_length, uint8_t *payload, size_t payload_length, int32_t *work, size_t work_length);
+
+/*
+ * Decodes with flip attempts (SCAN-Flip), for payloads that end with a CRC: all K bits, the first one as the highest
+ * power, are over bits a multiple of D^8 + D^7 + D^6 + D^4 + D^2 + 1. So the sender divides the first K - 8 bits,
+ * followed by eight zeros, by that polynomial, its register zero at the start, and the remainder's bits, highest power
+ * first, are the last 8. K is 9 or more.
+ *   A pass is a SCAN decode walked to the leaves. Its bits are decided at the leaves, by the value that each is visited
+ * with in the last sweep: 1 if it is negative, else 0; frozen ones as known. So no bit is undecided, and a pass is not
+ * the decode of ruznavo_decode, which decides the bits of the word. If the first pass does not match its CRC, the
+ * unfrozen leaves are ranked by the size of that value, smallest first, lower index among equals. Attempt t is a pass
+ * in which every leaf before the t-th ranked one is frozen to its bit of the first pass, that leaf to the opposite bit,
+ * and the leaves after it are as in the mask. The first match ends the call.
+ *   sweeps    1 to RUZNAVO_MAX_SWEEPS, of each pass
+ *   attempts  the most attempts after the first pass, 0 to RUZNAVO_MAX_ATTEMPTS; fewer are made where K is smaller
+ *   payload   the first K bytes are written, the CRC's with them: those of the match, or those of the first pass where
+ *             none matched
+ *   work      the first N(n + 3) words; what they held has no influence, and they are 0 afterwards
+ * Answers the number, 0 or the first of 1, 2, 3, 4, 18, 19, 7, 11 and 12; whether a payload matched (ruznavo_matched);
+ * and t or the attempts made (ruznavo_attempts). Of wrong payloads about one in 256 matches an 8-bit CRC, and each
+ * attempt is another chance for that: a host that must know uses a longer CRC of its own inside the payload.
+ */
+uint64_t ruznavo_flip(const uint8_t *mask, size_t mask_length, size_t sweeps, size_t attempts, const int16_t *llrs,
+                      size_t llrs_length, uint8_t *payload, size_t payload_length, int32_t *work, size_t work_length);
 
 /*
  * The mask of N and K by row weight: positions are ranked by the number of ones in the binary index, most ones first,

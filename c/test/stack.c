@@ -38,6 +38,10 @@ static void call_decode(void) {
     answer = ruznavo_decode(mask, N, plan, 2 * N, RUZNAVO_MAX_SWEEPS, llrs, N, soft, N, bits, N, payload, N, work,
                             RUZNAVO_MAX_WORK_WORDS);
 }
+static void call_flip(void) {
+    answer = ruznavo_flip(mask, N, RUZNAVO_MAX_SWEEPS, RUZNAVO_MAX_ATTEMPTS, llrs, N, payload, N, work,
+                          RUZNAVO_MAX_WORK_WORDS);
+}
 static void call_mask_by_weight(void) { answer = ruznavo_mask_by_weight(N, N / 2, mask, N); }
 static void call_mask_for_distance(void) { answer = ruznavo_mask_for_distance(N, N / 2, 2, mask, N); }
 static void call_replay(void) { answer = ruznavo_replay(capture.bytes, capture.length, text, sizeof text); }
@@ -78,6 +82,17 @@ static int measure_ones(void) {
     return failed;
 }
 
+/* Flip attempts that are all made: the zero payload but for one bit of its CRC, so that the first pass does not match,
+ * and with these LLRs none of the attempts does by chance. */
+static int measure_flips(void) {
+    memset(payload, 0, sizeof payload);
+    payload[N / 2 - 1] = 1;
+    call_encode();
+    for (size_t i = 0; i < N; i++) llrs[i] = (int16_t)(bits[i] ? -1 - (int)i % 11 : 1 + (int)i % 11);
+    int failed = measure("flip", call_flip, 7500);
+    return failed || ruznavo_matched(answer) || ruznavo_attempts(answer) != RUZNAVO_MAX_ATTEMPTS;
+}
+
 /* Decodes with no bit undecided, and with some. */
 static int measure_decodes(void) {
     set_llrs(1);
@@ -99,7 +114,7 @@ int main(void) {
     failed += measure("samples, one not sent", call_samples, 200) + measure("encode", call_encode, 200) +
                  measure("transform", call_transform, 200) + measure("plan", call_plan, 2000);
     leaf_plan(plan, N);
-    failed += measure("check_plan", call_check_plan, 2000) + measure_decodes() + measure_ones();
+    failed += measure("check_plan", call_check_plan, 2000) + measure_flips() + measure_decodes() + measure_ones();
     capture_frame(&capture, 63, RUZNAVO_MAX_SWEEPS, llrs, N);
     capture_end(&capture, mask, N);
     failed += measure("replay", call_replay, 80000) + measure("mask_by_weight", call_mask_by_weight, 2500) +

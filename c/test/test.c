@@ -24,9 +24,21 @@
 /* The longest input that a damaged call has. */
 enum { LONGEST = 4 * REF_MAX_N };
 
-enum call { SAMPLES, ENCODE, TRANSFORM, PLAN, CHECK_PLAN, DECODE, REPLAY, MASK_BY_WEIGHT, MASK_FOR_DISTANCE, CALLS };
-static const char *const call_names[CALLS] = {"samples", "encode", "transform",      "plan",             "check_plan",
-                                              "decode",  "replay", "mask_by_weight", "mask_for_distance"};
+enum call {
+    SAMPLES,
+    ENCODE,
+    TRANSFORM,
+    PLAN,
+    CHECK_PLAN,
+    DECODE,
+    REPLAY,
+    MASK_BY_WEIGHT,
+    MASK_FOR_DISTANCE,
+    FLIP,
+    CALLS
+};
+static const char *const call_names[CALLS] = {"samples", "encode", "transform",      "plan",              "check_plan",
+                                              "decode",  "replay", "mask_by_weight", "mask_for_distance", "flip"};
 
 /* The numbers that each call can answer, as bits. */
 static const unsigned answers[CALLS] = {
@@ -39,15 +51,24 @@ static const unsigned answers[CALLS] = {
     1u << 0 | 1u << 1 | 1u << 2 | 1u << 4 | 1u << 7 | 1u << 11 | 1u << 14 | 1u << 15,
     1u << 0 | 1u << 1 | 1u << 11 | 1u << 16,
     1u << 0 | 1u << 1 | 1u << 11 | 1u << 16 | 1u << 17,
+    0x9Fu | 1u << 11 | 1u << 12 | 1u << 18 | 1u << 19,
 };
 
+/* The least exponent of N of an accepted call: flip attempts need nine unfrozen positions. */
+static const int least_stage_of[CALLS] = {1, 1, 1, 1, 1, 1, 1, 1, 1, 4};
+
 static uint64_t seed = 1, case_number;
-enum { NUMBERS = RUZNAVO_NOTHING_WANTED + 1 };
+enum { NUMBERS = RUZNAVO_BAD_ATTEMPTS + 1 };
 static uint64_t number_seen[CALLS][NUMBERS], stage_seen[CALLS][REF_MAX_STAGE + 1], sweeps_seen[REF_MAX_SWEEPS + 1],
     found_seen[2];
 
 /* Accepted decodes by n: without an undecided bit and with one; and those without by their frozen check. */
 static uint64_t undecided_seen[2][REF_MAX_STAGE + 1], check_seen[2];
+
+/* Accepted flip attempts: a match in the first pass, in an attempt, none in as many as allowed, and none where the
+ * unfrozen positions ran out. */
+enum ending { FIRST_PASS, IN_ATTEMPT, ALL_TRIED, RAN_OUT, ENDINGS };
+static uint64_t endings_seen[ENDINGS], tries_seen[RUZNAVO_MAX_ATTEMPTS + 1];
 
 /* Nodes of a kind by their stage, in accepted decodes: those that the plan goes below, and those that it cuts; and of
  * the cut ones those that have a position frozen to 1. */
@@ -527,6 +548,87 @@ static void decode_case(struct random *r) {
     compare_negated(r, c.mask, c.mask_length, p.bytes, m.sweeps, llrs, answer);
 }
 
+/* ---- flip attempts */
+
+/* Mostly a code with nine unfrozen positions or more, often only a few more. */
+static void flip_code(struct random *r, struct code *c) {
+    do random_code(r, c);
+    while (c->K <= RUZNAVO_CRC_BITS && !random_chance(r, 0.05));
+    if (random_chance(r, 0.3) && c->K > RUZNAVO_CRC_BITS) {
+        size_t wanted = RUZNAVO_CRC_BITS + 1 + random_below(r, 30);
+        for (size_t i = 0; i < c->N && c->K > wanted; i++)
+            if (c->mask[i] == RUZNAVO_UNFROZEN) c->mask[i] = RUZNAVO_FROZEN_ZERO, c->K--;
+    }
+}
+
+/* LLRs of a word whose payload matches its CRC, with some noise. */
+static void flip_llrs(struct random *r, const struct code *c, int16_t *llrs) {
+    uint8_t payload[REF_MAX_N], word[REF_MAX_N];
+    double v = 0.1 + 0.9 * random_uniform(r), scale = (double)((uint64_t)1 << random_below(r, 7));
+    random_bytes(r, payload, c->K);
+    ref_crc_append(payload, c->K);
+    ref_encode(c->mask, c->N, payload, c->K, word, c->N);
+    for (size_t i = 0; i < c->N; i++)
+        llrs[i] = (int16_t)lround(scale * 2 * ((word[i] ? -1 : 1) + sqrt(v) * random_gauss(r)) / v);
+}
+
+struct flip_rooms {
+    size_t llrs, sweeps, attempts, payload, work;
+};
+
+static void damage_flip(struct random *r, struct code *c, int16_t *llrs, struct flip_rooms *m) {
+    static const size_t bad_sweeps[] = {0, 9, 16, 65537, SIZE_MAX}, bad_attempts[] = {32, 33, 256, 65536, SIZE_MAX};
+    switch (random_below(r, 8)) {
+    case 0: damage_mask(r, c); break;
+    case 1: m->llrs = other_length(r, c->N); break;
+    case 2: m->sweeps = bad_sweeps[random_below(r, 5)]; break;
+    case 3: m->attempts = bad_attempts[random_below(r, 5)]; break;
+    case 4: llrs[random_below(r, c->N)] = INT16_MIN; break;
+    case 5: m->payload = too_short(r, c->K); break;
+    case 6:
+        for (size_t i = 0; i < c->N; i++)
+            if (c->mask[i] == RUZNAVO_UNFROZEN && random_chance(r, 0.9)) c->mask[i] = RUZNAVO_FROZEN_ONE;
+        break;
+    default: m->work = too_short(r, RUZNAVO_WORK_WORDS(c->N));
+    }
+}
+
+/* Counts accepted flip attempts. */
+static void count_flip(const struct code *c, size_t attempts, int matched, size_t tries) {
+    enum ending e = matched ? tries == 0 ? FIRST_PASS : IN_ATTEMPT : tries == attempts ? ALL_TRIED : RAN_OUT;
+    count_mask(FLIP, c->mask, c->mask_length);
+    endings_seen[e]++;
+    tries_seen[tries]++;
+}
+
+static void flip_case(struct random *r) {
+    static struct code c;
+    static int16_t llrs[LONGEST];
+    flip_code(r, &c);
+    random_llrs(r, &c, llrs);
+    if (c.K > RUZNAVO_CRC_BITS && random_chance(r, 0.8)) flip_llrs(r, &c, llrs);
+    size_t few = c.N > 128 && random_chance(r, 0.9) ? 3 : RUZNAVO_MAX_ATTEMPTS;
+    struct flip_rooms m = {c.N, (size_t)random_from(r, 1, random_chance(r, 0.2) ? RUZNAVO_MAX_SWEEPS : 2),
+                           random_below(r, few + 1), enough(r, c.K), enough(r, RUZNAVO_WORK_WORDS(c.N))};
+    for (int d = damages(r); d > 0; d--) damage_flip(r, &c, llrs, &m);
+    place(r, MASK, c.mask_length, 1, c.mask);
+    place(r, LLRS, m.llrs, sizeof(int16_t), llrs);
+    place(r, PAYLOAD, m.payload, 1, NULL);
+    place(r, WORK, m.work, sizeof(int32_t), NULL);
+    static const enum slot used[] = {MASK, LLRS, PAYLOAD, WORK};
+    int matched;
+    size_t tries;
+    lock(used, 2, 0);
+    uint64_t answer = ruznavo_flip(buffer(MASK), c.mask_length, m.sweeps, m.attempts, buffer(LLRS), m.llrs,
+                                   buffer(PAYLOAD), m.payload, buffer(WORK), m.work);
+    lock(used, 2, 1);
+    int number = ref_flip(twin(MASK), c.mask_length, m.sweeps, m.attempts, twin(LLRS), m.llrs, twin(PAYLOAD), m.payload,
+                          twin(WORK), m.work, &matched, &tries);
+    compare(FLIP, answer, answer_of(number, tries) + ((uint64_t)matched << 40), used, 4);
+    if (ruznavo_matched(answer) != (unsigned)matched || ruznavo_attempts(answer) != tries) stop("the answer's parts");
+    if (number == 0) count_flip(&c, m.attempts, matched, tries);
+}
+
 /* ---- captures */
 
 /* Frames of one code: few, or as many as a capture holds, or one more. */
@@ -732,6 +834,33 @@ static void run_undecided(void) {
         if (hard[i] != RUZNAVO_UNDECIDED || payload[i] != RUZNAVO_UNDECIDED) stop("an undecided bit");
 }
 
+/* Flip attempts, up to five, worked out from the definitions (crates/model/proofs/FlipExamples.antt): a match in the
+ * first pass, in attempt 4, and none. */
+static void run_flips(void) {
+    static const struct {
+        int16_t llrs[16];
+        unsigned matched, attempts;
+        const char *payload;
+    } flips[] = {{{-2, 2, -10, -9, 7, 2, -1, 4, -9, -6, -4, -9, -10, 0, -10, -7}, 1, 0, "11010000001"},
+                 {{-6, -8, 9, -10, 2, -3, -2, 9, -2, 0, 1, 2, 10, 3, -2, 1}, 1, 4, "11010000001"},
+                 {{-2, -1, -7, 0, 10, 6, -3, 8, -1, 2, -8, -9, -3, -6, 0, -1}, 0, 5, "00111000001"}};
+    static const uint8_t mask[16] = {1, 1, 1, 0, 2, 0, 0, 0, 1};
+    static int32_t work[RUZNAVO_WORK_WORDS(16)];
+    for (size_t i = 0; i < sizeof flips / sizeof *flips; i++) {
+        uint8_t payload[2][11];
+        int matched;
+        size_t tries;
+        uint64_t answer = ruznavo_flip(mask, 16, 2, 5, flips[i].llrs, 16, payload[0], 11, work, RUZNAVO_WORK_WORDS(16));
+        ref_flip(mask, 16, 2, 5, flips[i].llrs, 16, payload[1], 11, work, RUZNAVO_WORK_WORDS(16), &matched, &tries);
+        if (ruznavo_number(answer) || (unsigned)matched != flips[i].matched || tries != flips[i].attempts)
+            stop("a flipped frame's reference");
+        if (ruznavo_matched(answer) != flips[i].matched || ruznavo_attempts(answer) != flips[i].attempts)
+            stop("a flipped frame's match");
+        if (!are_digits(payload[0], flips[i].payload) || !are_digits(payload[1], flips[i].payload))
+            stop("a flipped frame's payload");
+    }
+}
+
 /* A capture of one frame of two positions. */
 static void run_capture(uint8_t first, uint8_t second, int16_t first_llr, int16_t second_llr, const char *line) {
     const uint8_t mask[2] = {first, second};
@@ -803,6 +932,7 @@ static void run_frames(void) {
     int16_t values[2][8];
     for (size_t i = 0; i < sizeof frames / sizeof *frames; i++) run_frame(&frames[i]);
     run_undecided();
+    run_flips();
     run_captures();
     run_words();
     if (ruznavo_samples(samples, 8, marks, 8, 1, values[0], 8) || ref_samples(samples, 8, marks, 8, 1, values[1], 8))
@@ -858,23 +988,28 @@ static void report(void) {
     printf("decodes accepted with an undecided bit: %" PRIu64 "\n", undecided_decodes());
     printf("decodes accepted with none, frozen check 0: %" PRIu64 ", 1: %" PRIu64 "\n", check_seen[0], check_seen[1]);
     printf("decodes accepted with a position frozen to 1: %" PRIu64 "\n", ones_seen[DECODE]);
+    printf("flip attempts, match in the first pass: %" PRIu64 ", in an attempt: %" PRIu64 ", none: %" PRIu64
+           ", none and positions ran out: %" PRIu64 "\n",
+           endings_seen[FIRST_PASS], endings_seen[IN_ATTEMPT], endings_seen[ALL_TRIED], endings_seen[RAN_OUT]);
     printf("masks for a distance, none: %" PRIu64 ", found: %" PRIu64 "\n", found_seen[0], found_seen[1]);
 }
 
 /* A run of some length has tried every number that a call can answer, every N, positions frozen to 1 in each call with
- * a mask, every sweep count, undecided bits, without these both checks, and masks for a distance that are found and
- * that are not. */
+ * a mask, every sweep count, undecided bits, without these both checks, every ending of flip attempts, and masks for a
+ * distance that are found and that are not. */
 static void all_tried(void) {
-    static const enum call with_mask[] = {ENCODE, PLAN, CHECK_PLAN, DECODE, REPLAY};
+    static const enum call with_mask[] = {ENCODE, PLAN, CHECK_PLAN, DECODE, REPLAY, FLIP};
     for (size_t i = 0; i < sizeof with_mask / sizeof *with_mask; i++)
         if (!ones_seen[with_mask[i]]) stop("positions frozen to 1 not tried");
     for (int call = 0; call < CALLS; call++) {
         for (int number = 0; number < NUMBERS; number++)
             if ((number_seen[call][number] > 0) != (answers[call] >> number & 1))
                 stop("a number not tried, or not the call's");
-        for (int n = 1; n <= REF_MAX_STAGE; n++)
+        for (int n = least_stage_of[call]; n <= REF_MAX_STAGE; n++)
             if (!stage_seen[call][n]) stop("an N not tried");
     }
+    for (int e = 0; e < ENDINGS; e++)
+        if (!endings_seen[e]) stop("an ending of flip attempts not tried");
     for (int sweeps = 1; sweeps <= REF_MAX_SWEEPS; sweeps++)
         if (!sweeps_seen[sweeps]) stop("a number of sweeps not tried");
     if (!undecided_decodes()) stop("undecided bits not tried");
@@ -882,10 +1017,13 @@ static void all_tried(void) {
     if (!found_seen[0] || !found_seen[1]) stop("a mask for a distance, found or not, not tried");
 }
 
-/* A longer run has cut every kind at every size at which a node has it, also with a position frozen to 1, and gone
- * below it where there are children. And it has decoded with an undecided bit and with none at every N. */
+/* A longer run has ended with every number of attempts, and has cut every kind at every size at which a node has it,
+ * also with a position frozen to 1, and gone below it where there are children. And it has decoded with an undecided
+ * bit and with none at every N. */
 static void all_kinds_tried(void) {
     static const int least_stage[REF_KINDS] = {0, 0, 1, 2, 2, 3, 3, 3};
+    for (int t = 0; t <= RUZNAVO_MAX_ATTEMPTS; t++)
+        if (!tries_seen[t]) stop("a number of attempts not tried");
     for (int n = 1; n <= REF_MAX_STAGE; n++)
         if (!undecided_seen[0][n] || !undecided_seen[1][n]) stop("undecided bits, or none, not tried at an N");
     for (int kind = 0; kind < REF_KINDS; kind++)
@@ -900,7 +1038,7 @@ static void all_kinds_tried(void) {
 int main(int argc, char **argv) {
     static void (*const run[CALLS])(struct random *) = {
         samples_case, encode_case, transform_case,      plan_case,             check_plan_case,
-        decode_case,  replay_case, mask_by_weight_case, mask_for_distance_case};
+        decode_case,  replay_case, mask_by_weight_case, mask_for_distance_case, flip_case};
     uint64_t cases = argc > 2 ? strtoull(argv[2], NULL, 10) : 50000, first = argc > 3 ? strtoull(argv[3], NULL, 10) : 0;
     if (argc > 1) seed = strtoull(argv[1], NULL, 10);
     signal(SIGSEGV, fault);
