@@ -42,17 +42,31 @@ static void encode(const code *c, const uint8_t *payload, uint8_t *word) {
     if (ruznavo_encode(c->mask, c->n, payload, c->k, word, c->n)) fail("the encoder turned a payload down");
 }
 
+void draw_bits(struct random *r, uint8_t *bits, size_t count) {
+    for (size_t i = 0; i < count; i++) bits[i] = random_bits(r) >> 63;
+}
+
+// Sends the frame's payload, with the noise negated where `negated` has a 1.
+static void send(const code *c, struct random *r, const uint8_t *negated, double variance, frame *f) {
+    uint8_t word[MAX_N];
+    encode(c, f->payload, word);
+    f->variance = (float)variance;
+    transmit(r, word, negated, c->n, f->variance, f->samples);
+}
+
+void send_payload(const code *c, struct random *r, double variance, frame *f) {
+    static const uint8_t as_drawn[MAX_N] = {0};
+    send(c, r, as_drawn, variance, f);
+}
+
 void make_frame(const code *c, struct random *r, double ebn0_db, sending what, frame *f) {
-    uint8_t drawn[MAX_N], sent[MAX_N], negated[MAX_N] = {0};
-    for (size_t i = 0; i < c->k; i++) f->payload[i] = random_bits(r) >> 63;
-    encode(c, f->payload, drawn);
+    uint8_t negated[MAX_N] = {0};
+    draw_bits(r, f->payload, c->k);
     if (what == ZERO) {
+        encode(c, f->payload, negated);
         memset(f->payload, 0, c->k);
-        memcpy(negated, drawn, c->n);
     }
-    encode(c, f->payload, sent);
-    f->variance = (float)noise_variance(c->n, c->k, ebn0_db);
-    transmit(r, sent, negated, c->n, f->variance, f->samples);
+    send(c, r, negated, noise_variance(c->n, c->k, ebn0_db), f);
 }
 
 void make_llrs(const code *c, const frame *f, float scale, int16_t *llrs) {

@@ -39,6 +39,10 @@ typedef enum { DRAWN, ZERO } sending;
 struct random frames_at(double ebn0_db, uint64_t seed);
 void make_frame(const code *c, struct random *r, double ebn0_db, sending what, frame *f);
 
+// Random bits; and the frame of a payload that is already there, at this noise variance.
+void draw_bits(struct random *r, uint8_t *bits, size_t count);
+void send_payload(const code *c, struct random *r, double variance, frame *f);
+
 // The front end's LLRs, with the noise variance divided by `scale`: 2y / v times the scale, rounded.
 void make_llrs(const code *c, const frame *f, float scale, int16_t *llrs);
 

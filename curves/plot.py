@@ -1,9 +1,10 @@
 #!/usr/bin/env python3
 """plot.py errors OUT.svg RULE IN.csv: block and bit error rates that simulate wrote, of the masks of one rule.
 plot.py scale OUT.svg IN.csv: block error rates by the scale of the LLRs that scale wrote.
+plot.py flips OUT.svg IN.csv: block error rates of SCAN and of flip attempts that flip wrote.
 
 The first has a row for each code, with the block errors and their 95% confidence ranges on the left and the bit errors
-on the right. The second has a panel for each rule that occurs. A mask is named RULE-N-K.
+on the right. The second has a panel for each rule that occurs, the third one for each code. A mask is named RULE-N-K.
 """
 import csv
 import math
@@ -231,14 +232,56 @@ def draw_scales(rows):
     return page(len(rules) * WIDTH, 36 + HEIGHT + len(CODE_STYLES) * LINES + 10, parts)
 
 
+# ---- Flip attempts
+
+# By decoder, attempts allowed and sweeps; others are not drawn.
+FLIP_STYLES = {
+    ("SCAN", "0", "1"): ("circle", BLUE, False, "SCAN, 1 sweep"),
+    ("SCAN", "0", "4"): ("triangle", GREEN, False, "SCAN, 4 sweeps"),
+    ("flip", "0", "1"): ("cross", BLACK, False, "first pass, 1 sweep"),
+    ("flip", "8", "1"): ("square", ORANGE, False, "8 attempts"),
+    ("flip", "31", "1"): ("diamond", RED, False, "31 attempts"),
+    ("flip", "31", "4"): ("diamond", RED, True, "31 attempts, 4 sweeps"),
+}
+
+
+def flip_panel(x, y, rows):
+    dbs = sorted({float(row["ebn0_db"]) for row in rows})
+    panel = Panel(x, y, dbs, [block_rate(row) for row in rows])
+    title = f"{name_of(rows[0])}, mask by {RULES[rule_of(rows[0])]}"
+    parts = axes(panel, title, "Eb/N0 (dB)", "block error rate", [(db, f"{db:g}") for db in dbs])
+    for key, (shape, colour, dashed, _) in FLIP_STYLES.items():
+        points = [row for row in rows if (row["decoder"], row["attempts"], row["sweeps"]) == key]
+        parts += confidence_bars(panel, points, colour)
+        parts += draw_curve(panel, [(float(row["ebn0_db"]), block_rate(row)) for row in points], shape, colour, dashed)
+    return parts
+
+
+def draw_flips(rows):
+    title = "Block error rate with its 95% range: SCAN, and flip attempts with 8 of the bits sent as a CRC"
+    parts = [text(LEFT, 22, title, 14, "start")]
+    for index, (shape, colour, dashed, words) in enumerate(FLIP_STYLES.values()):
+        x, y = LEFT + index * 210, 48
+        parts.append(line(x, y, x + 34, y, colour, f' stroke-width="1.6"{DASH if dashed else ""}'))
+        parts += [marker(x + 17, y, shape, colour, not dashed), text(x + 42, y + 4, words, 12, "start")]
+    codes = {}
+    for row in rows:
+        codes.setdefault(row["mask"], []).append(row)
+    for index, code_rows in enumerate(codes.values()):
+        parts += flip_panel(index * WIDTH, 62, code_rows)
+    return page(len(codes) * WIDTH, 62 + HEIGHT, parts)
+
+
 def main():
     words = sys.argv[1:]
     if len(words) == 4 and words[0] == "errors":
         picture = draw_errors([row for row in read_rows(words[3]) if rule_of(row) == words[2]])
     elif len(words) == 3 and words[0] == "scale":
         picture = draw_scales(read_rows(words[2]))
+    elif len(words) == 3 and words[0] == "flips":
+        picture = draw_flips(read_rows(words[2]))
     else:
-        sys.exit("usage: plot.py errors OUT.svg RULE IN.csv | plot.py scale OUT.svg IN.csv")
+        sys.exit("usage: plot.py errors OUT.svg RULE IN.csv | plot.py scale|flips OUT.svg IN.csv")
     with open(words[1], "w") as file:
         file.write(picture)
 

@@ -7,6 +7,7 @@
 // run with exit status 1.
 #define _POSIX_C_SOURCE 200809L
 #include "frames.h"
+#include "points.h"
 #include "ruznavo.h"
 #include "sc.h"
 #include "scan.h"
@@ -17,12 +18,13 @@
 #include <string.h>
 #include <time.h>
 
-enum { SWEEPS = 4, SCALES = 2, SC = 0, CURVES = 1 + SCALES * SWEEPS, MAX_POINTS = 64 };
+enum { SWEEPS = 4, SCALES = 2, SC = 0, CURVES = 1 + SCALES * SWEEPS };
 static const size_t sweeps[SWEEPS] = {1, 2, 4, 8};
 static const float scales[SCALES] = {256, 1};
 static const char *const decoder_names[1 + SCALES] = {"SC", "v/256", "v"};
 
 static code c;
+static sending what = DRAWN;
 
 // What is counted of one decoder. A block is right if all its payload bits are; with an undecided bit none is.
 typedef struct {
@@ -114,13 +116,6 @@ static int has_errors(const point *p, unsigned long wanted) {
     return 1;
 }
 
-// What is asked of the simulation, beside the code and Eb/N0.
-typedef struct {
-    unsigned long least_frames, most_frames, block_errors, compare_every;
-    uint64_t seed;
-    sending what;
-} settings;
-
 static int is_done(const point *p, const settings *s) {
     return p->frames >= s->most_frames || (p->frames >= s->least_frames && has_errors(p, s->block_errors));
 }
@@ -132,20 +127,12 @@ static void simulate(point *p, const settings *s) {
     while (!is_done(p, s)) {
         int comparing = p->frames++ % s->compare_every == 0;
         p->compared += comparing;
-        make_frame(&c, &r, p->ebn0_db, s->what, &f);
+        make_frame(&c, &r, p->ebn0_db, what, &f);
         decode_by_sc(p, &f);
         for (int scale = 0; scale < SCALES; scale++) decode_at_scale(p, &f, scale, comparing);
         show_progress(p, 0);
     }
     show_progress(p, 1);
-}
-
-// The ends of the 95% confidence range of a rate (Wilson).
-static void wilson(double errors, double frames, double *low, double *high) {
-    double z = 1.959964, rate = errors / frames, width = z * z / frames;
-    double middle = rate + width / 2, spread = z * sqrt(rate * (1 - rate) / frames + width / (4 * frames));
-    *low = errors > 0 ? (middle - spread) / (1 + width) : 0;
-    *high = (middle + spread) / (1 + width);
 }
 
 static void write_row(FILE *csv, const point *p, const char *decoder, size_t sweep_count, const tally *t) {
@@ -178,17 +165,6 @@ static void print_undecided(unsigned long frames, const unsigned long *undecided
     printf("\n");
 }
 
-// FROM:STEP:TO, in dB.
-static int read_range(const char *text, double *points) {
-    double from, step, to;
-    char rest;
-    if (sscanf(text, "%lf:%lf:%lf%c", &from, &step, &to, &rest) != 3 || !(step >= 0.01) || !(to >= from)) return 0;
-    int points_read = 0;
-    for (; points_read < MAX_POINTS && from + points_read * step <= to + step / 1000; points_read++)
-        points[points_read] = from + points_read * step;
-    return points_read;
-}
-
 static void print_heading(void) {
     printf("%s: block error rates, SC and the library by scale and sweeps\n", c.name);
     printf("code        Eb/N0   frames       SC");
@@ -205,23 +181,14 @@ static int usage(void) {
     return 2;
 }
 
-static int read_settings(char **words, settings *s) {
-    char rest;
-    int fits = sscanf(words[0], "%lu:%lu%c", &s->least_frames, &s->most_frames, &rest) == 2;
-    s->block_errors = strtoul(words[1], NULL, 10);
-    s->compare_every = strtoul(words[2], NULL, 10);
-    s->seed = strtoull(words[3], NULL, 10);
-    return fits && s->most_frames && s->block_errors && s->compare_every;
-}
-
 static const char columns[] = "mask,n,k,ebn0_db,decoder,sweeps,frames,compared,block_errors,undecided,wrong_passed,"
                               "right_failed,bit_errors,bits,block_error_rate,low_95,high_95\n";
 
 int main(int word_count, char **words) {
     double points[MAX_POINTS];
     settings s;
-    s.what = word_count == 9 && !strcmp(words[8], "zero") ? ZERO : DRAWN;
-    int counted = word_count == (s.what == ZERO ? 9 : 8);
+    if (word_count == 9 && !strcmp(words[8], "zero")) what = ZERO;
+    int counted = word_count == (what == ZERO ? 9 : 8);
     int point_count = counted && read_settings(words + 3, &s) ? read_range(words[2], points) : 0;
     if (point_count == 0) return usage();
     read_code(&c, words[1]);

@@ -1,6 +1,6 @@
 #!/usr/bin/env python3
-"""tables.py CURVES.csv SCALE.csv: prints the measured tables of docs/CURVES.md in Markdown, from what simulate and
-scale wrote."""
+"""tables.py CURVES.csv SCALE.csv FLIPS.csv: prints the measured tables of docs/CURVES.md in Markdown, from what
+simulate, scale and flip wrote."""
 import csv
 import math
 import sys
@@ -130,6 +130,40 @@ def undecided_by_sweeps(masks):
     print_table(title, columns, table)
 
 
+FLIP_CURVES = [("SCAN", "0"), ("flip", "0"), ("flip", "8"), ("flip", "31")]
+
+
+def of_flips(rows, curve, sweeps):
+    return [row for row in rows if (row["decoder"], row["attempts"]) == curve and row["sweeps"] == str(sweeps)]
+
+
+def flips(masks):
+    """Where SCAN and flip attempts cross a block error rate."""
+    names = ["SCAN", "first pass", "8 attempts", "31 attempts"]
+    table = [
+        [name(mask), str(sweeps), f"{rate:g}"] + [crossing(of_flips(rows, curve, sweeps), rate) for curve in FLIP_CURVES]
+        for mask, rows in masks.items()
+        for sweeps in (1, 4)
+        for rate in RATES
+    ]
+    print_table("Eb/N0 in dB at which SCAN and flip attempts cross a block error rate", ["code | mask", "sweeps", "rate"] + names, table)
+
+
+def flip_costs(masks):
+    """Passes of a frame, and wrong blocks that matched, at the point where SCAN at 1 sweep is nearest to 0.01."""
+    columns = ["code | mask", "Eb/N0", "sweeps", "attempts", "frames", "block errors", "wrong and matched", "passes a frame"]
+    table = []
+    for mask, rows in masks.items():
+        points = [row for row in of_flips(rows, FLIP_CURVES[0], 1) if float(row["block_error_rate"]) > 0]
+        db = min(points, key=lambda row: abs(math.log(float(row["block_error_rate"]) / 0.01)))["ebn0_db"]
+        for curve in FLIP_CURVES[2:]:
+            for sweeps in (1, 4):
+                row = next(row for row in of_flips(rows, curve, sweeps) if row["ebn0_db"] == db)
+                cells = [row["frames"], row["block_errors"], row["wrong_matched"], f'{float(row["passes"]):.2f}']
+                table.append([name(mask), f"{float(db):g}", str(sweeps), curve[1]] + cells)
+    print_table("Flip attempts at the point where SCAN at 1 sweep is nearest to a block error rate of 0.01", columns, table)
+
+
 def main():
     curves, by_scale = read_masks(sys.argv[1]), read_masks(sys.argv[2])
     points = [row for rows in curves.values() for row in of_curve(rows, CURVES[0])]
@@ -140,6 +174,9 @@ def main():
     undecided_by_scale(by_scale)
     undecided_by_sweeps(curves)
     checks(curves)
+    of_attempts = read_masks(sys.argv[3])
+    flips(of_attempts)
+    flip_costs(of_attempts)
 
 
 main()
