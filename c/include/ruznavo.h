@@ -89,9 +89,9 @@ extern "C" {
 
 /* The version of this header and of the library that it belongs to. The shared object's name has the first number. */
 #define RUZNAVO_VERSION_MAJOR 1
-#define RUZNAVO_VERSION_MINOR 10
+#define RUZNAVO_VERSION_MINOR 11
 #define RUZNAVO_VERSION_PATCH 0
-#define RUZNAVO_VERSION "1.10.0"
+#define RUZNAVO_VERSION "1.11.0"
 
 #define RUZNAVO_MIN_N 2
 #define RUZNAVO_MAX_N 1024
