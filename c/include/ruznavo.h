@@ -162,7 +162,7 @@ enum {
     RUZNAVO_BAD_DRAIN = 15,     /* a drain number above 63 */
     RUZNAVO_BAD_UNFROZEN = 16,  /* K above N */
     RUZNAVO_NOTHING_WANTED = 17, /* K or the wanted distance is 0 */
-    RUZNAVO_NO_CRC = 18,         /* K below 9: no payload bit beside the CRC */
+    RUZNAVO_FEW_UNFROZEN = 18,         /* K below 9: no payload bit beside the CRC */
     RUZNAVO_BAD_ATTEMPTS = 19    /* more than RUZNAVO_MAX_ATTEMPTS attempts */
 };
 
@@ -187,7 +187,7 @@ static inline const char *ruznavo_number_name(unsigned number) {
     case RUZNAVO_BAD_DRAIN: return "drain number above 63";
     case RUZNAVO_BAD_UNFROZEN: return "K above N";
     case RUZNAVO_NOTHING_WANTED: return "K or the wanted distance is 0";
-    case RUZNAVO_NO_CRC: return "K below 9";
+    case RUZNAVO_FEW_UNFROZEN: return "K below 9";
     case RUZNAVO_BAD_ATTEMPTS: return "more than 31 attempts";
     default: return "unknown number";
     }

@@ -1,4 +1,4 @@
-// A pass: SCAN walked down to the last leaf over the lent workspace, which leaves the incoming values of the unfrozen leaves in row 0.
+// A pass: SCAN walked down to the unfrozen leaves over the lent workspace, which leaves their incoming values in row 0.
 use by_list::message_by_list;
 use combine::leaves_high;
 use combine::leaves_low;

@@ -487,8 +487,9 @@ attempt-masks = mask-of
 pub first-match : (c : FlipCall) → flipNumber c ≡ 0
     → Found (exponent (length (c .mask))) (c .mask) (map finite (c .llrs)) (c .sweeps) (c .allowed) (flipAnswer c)
     × (flipMatched c ≡ bit (flipAnswer c .matched)) × (flipAttempts c ≡ flipAnswer c .attempts)
-unfolding flipAnswer flipMatched flipAttempts
-first-match c ok = (flip-found (exponent (length (c .mask))) (c .mask) (map finite (c .llrs)) (c .sweeps) (c .allowed), rw ok, rw ok)
+    × ((buffer : List ℕ) → flipPayload c buffer ≡ over (flipAnswer c .payload) buffer)
+unfolding flipAnswer flipMatched flipAttempts flipPayload
+first-match c ok = (flip-found (exponent (length (c .mask))) (c .mask) (map finite (c .llrs)) (c .sweeps) (c .allowed), rw ok, rw ok, λ buffer. rw ok)
 
 -- Non-zero LLRs with the signs of a word whose payload is a multiple give that payload, matched with t = 0.
 pub signs-match : (c : FlipCall) → flipNumber c ≡ 0 → (payload : List ℕ) → length payload ≡ unfrozen (c .mask) → T (atMost 1 payload) → Multiple payload

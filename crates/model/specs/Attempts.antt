@@ -39,7 +39,7 @@ passBits n mask L k = leafBits mask (lastInputs n mask L k)
 
 -- ---- ranked leaves
 
--- the size of an incoming leaf value, which is finite (proofs/LeafValues.antt)
+-- the size of an incoming leaf value, which is finite (proofs/Theorems.antt, `leaf-values-small`)
 abbrev pub sizeOf : Soft → ℕ
 sizeOf x = natAbs (wordOf x)
 

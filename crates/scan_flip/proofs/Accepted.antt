@@ -1,6 +1,6 @@
 -- The call's number from its tests, and its answer and buffers from its steps to the definitions. Assumes nothing.
 use mathlib.Core.Path.{_≡_, refl, sym, _∙_, ap, subst}
-use mathlib.Core.Bool.{Bool, true, false, cond, _&&_}
+use mathlib.Core.Bool.{Bool, true, false, cond, not, _&&_}
 use mathlib.Core.List.{List, [], _∷_, _++_, map}
 use Prim.Native.Nat.{ℕ, zero, suc, _+_, _*_, _^_, _≤_}
 use native.Mathlib.Nat.{mul-le-mul}
@@ -27,7 +27,7 @@ use Rattle.scan.proofs.Rounds.{cleared-from}
 use Rattle.attempts.specs.Steps.{Flippable, Made}
 use Rattle.scan_flip.specs.declared.FlipDecoded.{FlipDecoded}
 use Rattle.scan_flip.specs.declared.FlipDecoded.the-variants.{Matched, Unmatched, Refused}
-use Rattle.scan_flip.specs.Answers.{answerNumber, answerMatched, answerAttempts}
+use Rattle.scan_flip.specs.Answers.{answerRefused, answerNumber, answerMatched, answerAttempts}
 use Rattle.scan_flip.specs.Calls.{flipCall, Outcome, Passed, FlipTests, Ran}
 
 module _ {mask : List ℕ} {number stage : ℕ} {ones : Bool} (sweeps allowed : ℕ) (llrs : List ℤ) (payload words : ℕ) (m : MaskTests mask number stage ones) where
@@ -100,7 +100,7 @@ pub refused-outcome : {c : FlipCall} {number stage k : ℕ} {ones : Bool} → Fl
 unfolding flipMatched flipAttempts flipPayload flipWork
 refused-outcome {c = c} found h payload work =
     let b : eqb (flipNumber c) 0 ≡ false = ne-eqb (flipNumber c) 0 (λ z. h (found .number-is ∙ z)) in
-    record { number-is = found .number-is; matched-is = sym (rw b); attempts-is = sym (rw b); payload-is = sym (rw b); work-is = sym (rw b) }
+    record { refused-is = sym (ap not b); number-is = found .number-is; matched-is = sym (rw b); attempts-is = sym (rw b); payload-is = sym (rw b); work-is = sym (rw b) }
 
 -- ---- an accepted call
 module _ {c : FlipCall} {stage k : ℕ} {ones : Bool} (p : Passed c stage k ones) where
@@ -153,6 +153,7 @@ module _ {c : FlipCall} {stage k : ℕ} {ones : Bool} (p : Passed c stage k ones
       let room : n ≤ length work = omega (arith, p .work-room) in
       let b : eqb (flipNumber c) 0 ≡ true = eq-eqb (flipNumber c) 0 ok in
       record {
+        refused-is = ran .not-refused ∙ sym (ap not b);
         number-is = ran .accepted ∙ sym ok;
         matched-is = ran .matched-is ∙ sym (rw b (ap (λ (a : Flipped). bit (a .matched)) answer-is));
         attempts-is = ran .attempts-is ∙ sym (rw b (ap (λ (a : Flipped). a .attempts) answer-is));
@@ -182,6 +183,7 @@ pub ran-of : {mask : List ℕ} {llrs : List ℤ} {sweeps allowed stage : ℕ} {p
     → Made mask llrs sweeps allowed (length mask) stage payload payload′ work work′ matched made → r ≡ cond matched (Matched made) (Unmatched made)
     → Ran mask llrs sweeps allowed stage payload payload′ work work′ r
 ran-of true made m e = record {
+  not-refused = ap answerRefused e;
   accepted = ap answerNumber e;
   matched-is = ap answerMatched e ∙ ap bit (m .matched-is);
   attempts-is = ap answerAttempts e ∙ m .attempts-is;
@@ -189,6 +191,7 @@ ran-of true made m e = record {
   words = m .words;
 }
 ran-of false made m e = record {
+  not-refused = ap answerRefused e;
   accepted = ap answerNumber e;
   matched-is = ap answerMatched e ∙ ap bit (m .matched-is);
   attempts-is = ap answerAttempts e ∙ m .attempts-is;

@@ -1,7 +1,14 @@
 -- What the cases of scan_flip::FlipDecoded stand for. Assumes nothing.
+use mathlib.Core.Bool.{Bool, true, false}
 use Prim.Native.Nat.{ℕ}
 use Rattle.scan_flip.specs.declared.FlipDecoded.{FlipDecoded}
 use Rattle.scan_flip.specs.declared.FlipDecoded.the-variants.{Matched, Unmatched, Refused}
+
+-- whether the call is refused
+abbrev pub answerRefused : FlipDecoded → Bool
+answerRefused (Matched t) = false
+answerRefused (Unmatched made) = false
+answerRefused (Refused number) = true
 
 -- the number of each case
 abbrev pub answerNumber : FlipDecoded → ℕ

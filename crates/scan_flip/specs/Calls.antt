@@ -1,9 +1,9 @@
 -- The call of flip attempts, what it answers and leaves, and what its tests find. Assumes nothing.
 use mathlib.Core.Path.{_≡_}
-use mathlib.Core.Bool.{Bool, not}
+use mathlib.Core.Bool.{Bool, false, not}
 use mathlib.Core.List.{List, map}
 use Prim.Native.Nat.{ℕ, _+_, _*_, _≤_, _<_}
-use lib.Dec.{T}
+use lib.Dec.{T, eqb}
 use lib.IntN.{ℤ}
 use lib.ListN.{length}
 use Rattle.model.specs.Lists.{atMost, bit, over}
@@ -14,7 +14,7 @@ use Rattle.model.specs.Attempts.{flipDecode, FlipCall, maxAttempts, flipNumber,
 use Rattle.inputs.specs.Tests.{MaskPassed}
 use Rattle.passes.specs.Trials.{SamePast}
 use Rattle.scan_flip.specs.declared.FlipDecoded.{FlipDecoded}
-use Rattle.scan_flip.specs.Answers.{answerNumber, answerMatched, answerAttempts}
+use Rattle.scan_flip.specs.Answers.{answerRefused, answerNumber, answerMatched, answerAttempts}
 
 -- a call by its inputs and the lengths of its buffers
 abbrev pub flipCall : List ℕ → ℕ → ℕ → List ℤ → ℕ → ℕ → FlipCall
@@ -22,6 +22,7 @@ flipCall mask sweeps allowed llrs payload words = record { mask = mask; sweeps =
 
 -- what it answers and leaves
 pub record Outcome (c : FlipCall) (payload payload′ : List ℕ) (work work′ : List ℤ) (r : FlipDecoded) : Type 0 where
+  pub refused-is : answerRefused r ≡ not (eqb (flipNumber c) 0)
   pub number-is : answerNumber r ≡ flipNumber c
   pub matched-is : answerMatched r ≡ flipMatched c
   pub attempts-is : answerAttempts r ≡ flipAttempts c
@@ -48,6 +49,7 @@ pub record FlipTests (c : FlipCall) (number stage k : ℕ) (ones : Bool) : Type 
 
 -- what the attempts of an accepted call leave, before the lent words are cleared
 pub record Ran (mask : List ℕ) (llrs : List ℤ) (sweeps allowed stage : ℕ) (payload payload′ : List ℕ) (work work′ : List ℤ) (r : FlipDecoded) : Type 0 where
+  pub not-refused : answerRefused r ≡ false
   pub accepted : answerNumber r ≡ 0
   pub matched-is : answerMatched r ≡ bit (flipDecode stage mask (map finite llrs) sweeps allowed .matched)
   pub attempts-is : answerAttempts r ≡ flipDecode stage mask (map finite llrs) sweeps allowed .attempts

@@ -18,7 +18,7 @@ ghost use Rattle.attempts.specs.Steps.{Flippable};
 ghost use Rattle.scan_flip.specs.declared.FlipDecoded.the-variants.{Matched, Unmatched};
 ghost use Rattle.scan_flip.specs.Calls.{flipCall, Outcome, FlipTests, Ran};
 
-// A match has its t, 0 for pass one; otherwise there is the number of attempts made, or of the refusal.
+// What a call answers: a match with its t, which is 0 for pass one; none, with the number of attempts made; or a refusal with its number.
 pub enum FlipDecoded {
     Matched(u32),
     Unmatched(u32),
