@@ -228,21 +228,21 @@ def equal_sizes(file):
 
 
 def every_sweep(file):
-    """Calls whose answer is another one with one sweep fewer."""
+    """Calls whose answer is another one with one sweep fewer, or with two in place of one."""
     for sweeps in range(1, MOST_SWEEPS + 1):
         for n in (16, 32):
-            other = max(sweeps - 1, 1)
-            fits = lambda c: sweeps == 1 or answer(c) != answer(c._replace(sweeps=other))
-            call = drawn_until(fits, lambda: drawn_call(n, sweeps, MOST_ATTEMPTS))
+            call = drawn_until(lambda c: answer(c) != answer(c._replace(sweeps=sweeps - 1 or 2)), lambda: drawn_call(n, sweeps, MOST_ATTEMPTS))
             file.case(f'{sweeps} sweeps', call)
     file.group('sweeps 1 to 8')
 
 
 def known_ones(file):
     """Calls whose answer is another one where the positions frozen to 1 are frozen to 0."""
+    def differs(call):
+        return answer(call) != answer(call._replace(mask=[min(byte, 1) for byte in call.mask]))
+
     for k in range(12):
-        plain = lambda c: answer(c._replace(mask=[min(byte, 1) for byte in c.mask]))
-        call = drawn_until(lambda c: answer(c) != plain(c), lambda: drawn_call((16, 32)[k % 2], k % 8 + 1, 4 + k, ones=(.3, 1)[k // 6]))
+        call = drawn_until(differs, lambda: drawn_call((16, 32)[k % 2], k % 8 + 1, 4 + k, ones=(.3, 1)[k // 6]))
         file.case('frozen to 1', call)
     file.group('positions frozen to 1')
 
@@ -261,63 +261,64 @@ def drawn(file):
     file.group('N 1024, LLRs of the largest size')
 
 
-# A plain call, and two ways to have each fault; all sets of faults of one way can be put together.
 def faulty_call(way, found):
-    n, llr, attempts, sweeps = [(16, -LARGEST_LLR, MOST_ATTEMPTS, MOST_SWEEPS), (32, LARGEST_LLR, 0, 1)][way]
-    mask = [0] * n
-    mask[-(n - LEAST_K):] = [1 + way] * (n - LEAST_K)
-    if 18 in found:
-        mask[:1 if way == 0 else LEAST_K] = [1] * (1 if way == 0 else LEAST_K)
-    if 1 in found:
-        mask = mask + [1] if way == 0 else mask[:-1]
-    if 2 in found:
-        mask[-1] = (3, 15)[way]
-    llrs = [llr] * (len(mask) + (3 in found) * (-1, 1)[way])
-    if 7 in found:
-        llrs[(0, -1)[way]] = -LARGEST_LLR - 1
-    call = call_of(mask, (0, MOST_SWEEPS + 1)[way] if 4 in found else sweeps,
-                   (MOST_ATTEMPTS + 1, LARGEST)[way] if 19 in found else attempts, llrs)
-    room = call.room - 1 if way == 0 or call.room == 0 else 0
-    return call._replace(room=max(room, 0) if 11 in found else call.room, words=(call.words - 1, 0)[way] if 12 in found else call.words)
+    """A call with these faults, each in one of two ways; an LLR of -32768 is the first or the last."""
+    def pick(number, good, *bad):
+        return bad[way] if number in found else good[way]
+    n = pick(1, (16, 32), 17, 31)
+    k = pick(18, (LEAST_K, LEAST_K), LEAST_K - 1, 0)
+    mask = [0] * k + [1 + way] * (n - k)
+    mask[-1] = pick(2, (1, 2), 3, 15)
+    llrs = [(-LARGEST_LLR, LARGEST_LLR)[way]] * (n + pick(3, (0, 0), -1, 1))
+    llrs[-way] = pick(7, llrs[:2], -LARGEST_LLR - 1, -LARGEST_LLR - 1)
+    words = words_for(n)
+    return Call(mask, pick(4, (MOST_SWEEPS, 1), MOST_SWEEPS + 1, 0), pick(19, (MOST_ATTEMPTS, 0), MOST_ATTEMPTS + 1, LARGEST), llrs,
+                pick(11, (k, k), k - 1, 0), pick(12, (words, words), words - 1, 0))
 
 
 def refusals(file):
+    """No fault, each fault and each two, and all of them. Where K is 0, no payload buffer is too short."""
     order = (1, 2, 3, 4, 18, 19, 7, 11, 12)
-    for way in (0, 1):
-        file.case('no fault', faulty_call(way, ()))
-        for count in (1, 2):
-            for found in combinations(order, count):
-                call = faulty_call(way, found)
-                if faults(call) == found:
-                    file.case('faults ' + ' '.join(map(str, found)), call, ('refused', found[0]))
-                else:
-                    assert way == 1 and 18 in found and 11 in found, (way, found, faults(call))
-        file.case('all faults', faulty_call(way, order), ('refused', 1))
+    sets = [(), *combinations(order, 1), *combinations(order, 2), order]
+    for way, found in [(way, found) for way in (0, 1) for found in sets]:
+        call = faulty_call(way, found)
+        if way == 0 or not {18, 11} <= set(found):
+            assert faults(call) == found
+            file.case(f'faults {found}', call)
     file.group('faults alone and in pairs')
 
 
 def edges(file):
-    call = call_of(EXAMPLE, 2, 5, NONE_MATCHES)
-    eight, nine = [0] * 8 + [1] * 8, [1] * 7 + [0] * 9
-    for name, other, number in [
-            *((f'K {k}', call._replace(mask=mask, room=k), number) for k, mask, number in ((8, eight, 18), (9, nine, 0), (0, [2] * 16, 18))),
-            *((f'{attempts} attempts', call._replace(attempts=attempts), 19 if attempts > 31 else 0) for attempts in
-              (0, 30, 31, 32, 33, 255, 256, 2 ** 32, 2 ** 32 + 5, 2 ** 63, LARGEST)),
-            *((f'{sweeps} sweeps', call._replace(sweeps=sweeps), 0 if 1 <= sweeps <= 8 else 4) for sweeps in
-              (0, 1, 8, 9, 256 + 1, 2 ** 32 + 1, LARGEST)),
-            *((f'payload buffer of {room} bytes', call._replace(room=room), 0 if room == 11 else 11) for room in (0, 1, 10, 11)),
-            *((f'workspace of {words} words', call._replace(words=words), 0 if words == 112 else 12) for words in (0, 1, 111, 112)),
-            *((f'LLR {place} is {llr}', call._replace(llrs=NONE_MATCHES[:place] + [llr] + NONE_MATCHES[place + 1:]), 7 if llr == -32768 else 0)
-              for place in (0, 7, 15) for llr in (-32768, -32767, 32767)),
-            *((f'byte {place} is {byte}', call._replace(mask=EXAMPLE[:place] + [byte] + EXAMPLE[place + 1:]), 2)
-              for place in (0, 7, 15) for byte in (3, 15)),
-            *((f'{count} LLRs', call._replace(llrs=(NONE_MATCHES * 2)[:count]), 3) for count in (0, 1, 15, 17, 32)),
-            *((f'N {n}', Call([0] * n, 1, 1, [1] * n, n, words_for(n) if n in ALLOWED else 4 * n), 18 if n in ALLOWED else 1)
-              for n in (0, 1, 2, 3, 4, 7, 8, 9, 12, 15, 17, 31, 33, 1025))]:
-        if number:
-            file.case(name, other, ('refused', number))
-        else:
-            file.case(name, other)
+    plain = call_of(EXAMPLE, 2, 5, NONE_MATCHES)
+
+    def tried(name, number, **changes):
+        """The plain call with some inputs changed; number 0 stands for an accepted one."""
+        call = plain._replace(**changes)
+        assert (faults(call) or (0,))[0] == number, (name, faults(call))
+        file.case(name, call)
+
+    def replaced(values, place, value):
+        return values[:place] + [value] + values[place + 1:]
+
+    for mask in ([0] * 8 + [1] * 8, [1] * 7 + [0] * 9, [2] * 16):
+        tried(f'K {mask.count(0)}', 0 if mask.count(0) >= 9 else 18, mask=mask, room=mask.count(0))
+    for attempts in (0, 30, 31, 32, 33, 255, 256, 2 ** 32, 2 ** 32 + 5, 2 ** 63, LARGEST):
+        tried(f'{attempts} attempts', 19 if attempts > 31 else 0, attempts=attempts)
+    for sweeps in (0, 1, 8, 9, 256 + 1, 2 ** 32 + 1, LARGEST):
+        tried(f'{sweeps} sweeps', 0 if 1 <= sweeps <= 8 else 4, sweeps=sweeps)
+    for room in (0, 1, 10, 11):
+        tried(f'payload buffer of {room} bytes', 11 if room < 11 else 0, room=room)
+    for words in (0, 1, 111, 112):
+        tried(f'workspace of {words} words', 12 if words < 112 else 0, words=words)
+    for place in (0, 7, 15):
+        for llr in (-32768, -32767, 32767):
+            tried(f'LLR {place} is {llr}', 7 if llr == -32768 else 0, llrs=replaced(NONE_MATCHES, place, llr))
+        for byte in (3, 15):
+            tried(f'byte {place} is {byte}', 2, mask=replaced(EXAMPLE, place, byte))
+    for count in (0, 1, 15, 17, 32):
+        tried(f'{count} LLRs', 3, llrs=(NONE_MATCHES * 2)[:count])
+    for n in (0, 1, 2, 3, 4, 7, 8, 9, 12, 15, 17, 31, 33, 1025):
+        tried(f'N {n}', 18 if n in ALLOWED else 1, mask=[0] * n, llrs=[1] * n, room=n, words=words_for(n))
     file.group('edges')
 
 

@@ -72,7 +72,7 @@ fn answer_in(line: &[u8]) -> Answer {
 
 // ---- its calls
 
-// A call that differs: the case's number, the buffers, what came, and the line.
+// A call that differs: the case's number, the buffers, what came, with the code of the answer's first letter, and the line.
 fn print_mismatch(case: usize, lent: Lent, answer: Answer, work: bool, line: &[u8]) {
     print_values(
         b"mismatch: case |, payload buffer of |, workspace of |; answer |, number |, workspace right ",
@@ -110,6 +110,7 @@ fn right(case: usize, line: &[u8], lent: Lent) -> bool {
     false
 }
 
+// Whether the line has a refused call.
 fn is_refused(line: &[u8]) -> bool {
     byte_at(line, 0) == b'r'
 }
