@@ -162,7 +162,7 @@ enum {
     RUZNAVO_BAD_DRAIN = 15,     /* a drain number above 63 */
     RUZNAVO_BAD_UNFROZEN = 16,  /* K above N */
     RUZNAVO_NOTHING_WANTED = 17, /* K or the wanted distance is 0 */
-    RUZNAVO_FEW_UNFROZEN = 18,         /* K below 9: no payload bit beside the CRC */
+    RUZNAVO_FEW_UNFROZEN = 18,   /* K below 9: no payload bit beside the CRC */
     RUZNAVO_BAD_ATTEMPTS = 19    /* more than RUZNAVO_MAX_ATTEMPTS attempts */
 };
 
@@ -299,7 +299,8 @@ uint64_t ruznavo_decode(const uint8_t *mask, size_t mask_length, const uint8_t *
  *   work      the first N(n + 3) words; what they held has no influence, and they are 0 afterwards
  * Answers the number, 0 or the first of 1, 2, 3, 4, 18, 19, 7, 11 and 12; whether a payload matched (ruznavo_matched);
  * and t or the attempts made (ruznavo_attempts). Of wrong payloads about one in 256 matches an 8-bit CRC, and each
- * attempt is another chance for that: a host that must know uses a longer CRC of its own inside the payload.
+ * attempt is another chance for that: a host that must know uses a longer CRC of its own inside the payload. A leaf
+ * value of 0 decides 0, and the zero payload matches: link tests of this call draw their payloads.
  */
 uint64_t ruznavo_flip(const uint8_t *mask, size_t mask_length, size_t sweeps, size_t attempts, const int16_t *llrs,
                       size_t llrs_length, uint8_t *payload, size_t payload_length, int32_t *work, size_t work_length);
