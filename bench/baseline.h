@@ -21,6 +21,7 @@ typedef uint64_t samples_call(const float *samples, size_t samples_length, const
 typedef uint64_t mask_call(size_t n, size_t k, uint8_t *mask, size_t mask_length);
 typedef uint64_t distance_call(size_t n, size_t k, size_t d, uint8_t *mask, size_t mask_length);
 
+typedef uint64_t erasure_call(size_t n, size_t k, double z, uint8_t *mask, size_t mask_length);
 typedef uint64_t flip_call(const uint8_t *mask, size_t mask_length, size_t sweeps, size_t attempts,
                            const int16_t *llrs, size_t llrs_length, uint8_t *payload, size_t payload_length,
                            int32_t *work, size_t work_length);
@@ -33,5 +34,6 @@ plan_call plain_plan;
 samples_call plain_samples;
 mask_call plain_mask_by_weight;
 distance_call plain_mask_for_distance;
+erasure_call plain_mask_by_erasure;
 
 #endif

@@ -27,17 +27,18 @@ typedef struct {
     mask_call *mask_by_weight;
     distance_call *mask_for_distance;
     flip_call *flip;
+    erasure_call *mask_by_erasure;
 } library;
 
 static const library libraries[LIBRARIES] = {
     {"proved", ruznavo_decode, ruznavo_encode, ruznavo_transform, ruznavo_plan, ruznavo_samples, ruznavo_mask_by_weight,
-     ruznavo_mask_for_distance, ruznavo_flip},
+     ruznavo_mask_for_distance, ruznavo_flip, ruznavo_mask_by_erasure},
     {"plain C", plain_decode, plain_encode, plain_transform, plain_plan, plain_samples, plain_mask_by_weight,
-     plain_mask_for_distance, NULL},
-    {"SSE2 C", sse2_decode, NULL, NULL, NULL, NULL, NULL, NULL, sse2_flip},
+     plain_mask_for_distance, NULL, plain_mask_by_erasure},
+    {"SSE2 C", sse2_decode, NULL, NULL, NULL, NULL, NULL, NULL, sse2_flip, NULL},
 };
 
-typedef enum { DECODE, ENCODE, PLAN, SAMPLES, MARKED, MASK, DISTANCE, TRANSFORM, CHAIN, FLIP } routine;
+typedef enum { DECODE, ENCODE, PLAN, SAMPLES, MARKED, MASK, DISTANCE, ERASURE, TRANSFORM, CHAIN, FLIP } routine;
 
 // The planner's plan; one near the leaves, which cuts every node of 2 positions that is of a kind; and the one that cuts
 // the leaves.
@@ -163,6 +164,7 @@ static void call(const test_case *c, int which, int f) {
     case MARKED: o->answer = lib->samples(samples[f], n, marks, n, variance, o->llrs, n); break;
     case MASK: o->answer = lib->mask_by_weight(n, c->k, o->word, n); break;
     case DISTANCE: o->answer = lib->mask_for_distance(n, c->k, (size_t)f % 32 + 1, o->word, n); break;
+    case ERASURE: o->answer = lib->mask_by_erasure(n, c->k, (f + 0.5) / FRAMES, o->word, n); break;
     case FLIP:
         o->answer = lib->flip(mask, n, c->sweeps, c->attempts, llrs[f], n, o->payload, c->k, o->work,
                               RUZNAVO_MAX_WORK_WORDS);
@@ -305,10 +307,12 @@ static void ones_table(void) {
 }
 
 static void other_table(void) {
-    static const char *const names[] = {"", "encoder", "planner", "front end", "with marks", "mask", "distance"};
-    heading("Encoder, planner, front end, mask by row weight and for distances from 1 to 32", "routine    code");
+    static const char *const names[] = {"",     "encoder",  "planner", "front end", "with marks",
+                                        "mask", "distance", "erasure"};
+    heading("Encoder, planner, front end, mask by row weight, for distances from 1 to 32 and for erasure rates from 0 to 1",
+            "routine    code");
     if (!counting) puts("   proved/plain");
-    for (int i = 0; i < 6 * CODES; i++) {
+    for (int i = 0; i < 7 * CODES; i++) {
         test_case c = {(routine)(ENCODE + i / CODES), codes[i % CODES][0], codes[i % CODES][1], 0, PLANNERS, ZEROS, 0};
         double mean[LIBRARIES];
         if (!counting) printf("%-10s (%4zu,%3zu)%5s", names[c.what], c.n, c.k, "");

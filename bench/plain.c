@@ -5,6 +5,7 @@
 #include "slips.h"
 
 #include <math.h>
+#include <stdlib.h>
 #include <string.h>
 
 #define CERTAIN INT32_MAX
@@ -110,6 +111,38 @@ static int plan_node(const uint8_t *mask, size_t size, uint8_t *plan, size_t nod
     int right = plan_node(mask + half, half, plan, 2 * node + 1, counts, cycles);
     *cycles += edge_cycles(left, right);
     return UNCUT;
+}
+
+// A position with its erasure rate, in the order in which positions are frozen.
+typedef struct {
+    double rate;
+    uint16_t position;
+} rated;
+
+static int by_rate(const void *a, const void *b) {
+    const rated *x = a, *y = b;
+    if (x->rate != y->rate) return x->rate > y->rate ? -1 : 1;
+    return x->position < y->position ? -1 : 1;
+}
+
+// All positions sorted by their rates, with qsort of the C library.
+uint64_t plain_mask_by_erasure(size_t n, size_t k, double z, uint8_t *mask, size_t mask_length) {
+    if (!exponent_of(n)) return 1;
+    if (k > n) return 16;
+    if (!(z > 0 && z < 1)) return 20;
+    if (mask_length < n) return 11;
+    rated all[1024];
+    all[0].rate = z;
+    for (size_t m = 1; m < n; m *= 2)
+        for (size_t i = m; i-- > 0;) {
+            double a = all[i].rate, square = a * a;
+            all[2 * i].rate = 2 * a - square;
+            all[2 * i + 1].rate = square;
+        }
+    for (size_t i = 0; i < n; i++) all[i].position = (uint16_t)i;
+    qsort(all, n, sizeof *all, by_rate);
+    for (size_t i = 0; i < n; i++) mask[all[i].position] = i < n - k;
+    return 0;
 }
 
 // How many positions of each number of ones are unfrozen; then the positions from the largest down.

@@ -54,6 +54,9 @@ int ref_mask_by_weight(size_t N, size_t K, uint8_t *mask, size_t room);
 /* The same mask for the wanted distance d; found is 0 where there is none. Where K and N are small every payload is tried. */
 int ref_mask_for_distance(size_t N, size_t K, size_t d, uint8_t *mask, size_t room, int *found);
 
+/* The mask from an erasure rate z. */
+int ref_mask_by_erasure(size_t N, size_t K, double z, uint8_t *mask, size_t room);
+
 /* counts, of REF_KINDS words, is left as it was by a refused call. */
 int ref_plan(const uint8_t *mask, size_t N, uint8_t *plan, size_t room, uint32_t *counts, uint32_t *cycles);
 

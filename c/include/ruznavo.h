@@ -62,20 +62,20 @@
  * v / 4, v / 16, v / 256 and without rounding, for (1024, 64) at 2 dB and 1 sweep: 8714, 4631, 3544, 3091, 3054
  * (docs/CURVES.md, which has other codes and says how to choose).
  *
- * Floating point. ruznavo_samples alone computes with floating-point numbers. It needs the processor's default
- * settings (MXCSR): rounding to nearest, subnormal numbers kept as they are (neither flush-to-zero nor
- * denormals-are-zero), exceptions masked. A program or a shared object linked with -ffast-math can change them at its
- * start. The call may leave exception flags set.
+ * Floating point. ruznavo_samples and ruznavo_mask_by_erasure alone compute with floating-point numbers. They need the
+ * processor's default settings (MXCSR): rounding to nearest, subnormal numbers kept as they are (neither flush-to-zero
+ * nor denormals-are-zero), exceptions masked. A program or a shared object linked with -ffast-math can change them at
+ * its start. The calls may leave exception flags set.
  *
  * Answers. Each call answers one number; the functions below take it apart. The refusal number is 0 if the call was
  * accepted. A refused call answers its number with every other result 0 and leaves every buffer as it was, the
  * workspace too. If several causes apply, the lowest number of those that the call tests is answered; the calls for
  * masks, replay and flip attempts test in the order that is given with them.
  *
- * Stack. At N = 1024 a replay used less than 80 KB, since it holds a decode's buffers, flip attempts less than 7.5 KB,
- * the decoder less than 5 KB, the mask for a distance less than 4.5 KB, the mask by weight less than 2.5 KB, planner
- * and plan check less than 2 KB each, the others less than 200 bytes. `make -C c` measures this (c/test/stack.c), and
- * fails where a call uses more.
+ * Stack. At N = 1024 a replay used less than 80 KB, since it holds a decode's buffers, the mask by erasure less than
+ * 18 KB, flip attempts less than 7.5 KB, the decoder less than 5 KB, the mask for a distance less than 4.5 KB, the mask
+ * by weight less than 2.5 KB, planner and plan check less than 2 KB each, the others less than 200 bytes. `make -C c`
+ * measures this (c/test/stack.c), and fails where a call uses more.
  */
 #ifndef RUZNAVO_H
 #define RUZNAVO_H
@@ -89,9 +89,9 @@ extern "C" {
 
 /* The version of this header and of the library that it belongs to. The shared object's name has the first number. */
 #define RUZNAVO_VERSION_MAJOR 1
-#define RUZNAVO_VERSION_MINOR 11
+#define RUZNAVO_VERSION_MINOR 12
 #define RUZNAVO_VERSION_PATCH 0
-#define RUZNAVO_VERSION "1.11.0"
+#define RUZNAVO_VERSION "1.12.0"
 
 #define RUZNAVO_MIN_N 2
 #define RUZNAVO_MAX_N 1024
@@ -163,7 +163,8 @@ enum {
     RUZNAVO_BAD_UNFROZEN = 16,  /* K above N */
     RUZNAVO_NOTHING_WANTED = 17, /* K or the wanted distance is 0 */
     RUZNAVO_FEW_UNFROZEN = 18,   /* K below 9: no payload bit beside the CRC */
-    RUZNAVO_BAD_ATTEMPTS = 19    /* more than RUZNAVO_MAX_ATTEMPTS attempts */
+    RUZNAVO_BAD_ATTEMPTS = 19,   /* more than RUZNAVO_MAX_ATTEMPTS attempts */
+    RUZNAVO_BAD_RATE = 20        /* the erasure rate is not strictly between 0 and 1 */
 };
 
 /* A refusal number's cause in words, for messages. */
@@ -189,6 +190,7 @@ static inline const char *ruznavo_number_name(unsigned number) {
     case RUZNAVO_NOTHING_WANTED: return "K or the wanted distance is 0";
     case RUZNAVO_FEW_UNFROZEN: return "K below 9";
     case RUZNAVO_BAD_ATTEMPTS: return "more than 31 attempts";
+    case RUZNAVO_BAD_RATE: return "erasure rate not strictly between 0 and 1";
     default: return "unknown number";
     }
 }
@@ -329,6 +331,18 @@ uint64_t ruznavo_mask_by_weight(size_t n, size_t k, uint8_t *mask, size_t mask_l
  * accepted answer: number 0.
  */
 uint64_t ruznavo_mask_for_distance(size_t n, size_t k, size_t d, uint8_t *mask, size_t mask_length);
+
+/*
+ * The mask of N and K for a measured erasure rate z. Each position has a rate, worked out from the index's top bit down:
+ * bit 0 turns z into 2z - z * z, bit 1 into z * z, each operation rounded once to double. The N - K positions with the
+ * largest rates are frozen, lower index first among equals. Each rate is within 2 to the power -40 of the same rule in
+ * exact fractions.
+ *   n, k, mask  as above
+ *   z           strictly between 0 and 1; docs/CURVES.md has curves of the masks of 0.5, and of better ones for Gaussian
+ *               noise
+ * Answers the number: 0, or the first of 1, 16, 20 and 11.
+ */
+uint64_t ruznavo_mask_by_erasure(size_t n, size_t k, double z, uint8_t *mask, size_t mask_length);
 
 /*
  * Replays a capture with the planner's plan of its mask, and writes the totals of its drains as text: a line for each

@@ -44,6 +44,7 @@ static void call_flip(void) {
 }
 static void call_mask_by_weight(void) { answer = ruznavo_mask_by_weight(N, N / 2, mask, N); }
 static void call_mask_for_distance(void) { answer = ruznavo_mask_for_distance(N, N / 2, 2, mask, N); }
+static void call_mask_by_erasure(void) { answer = ruznavo_mask_by_erasure(N, N / 2, 0.5, mask, N); }
 static void call_replay(void) { answer = ruznavo_replay(capture.bytes, capture.length, text, sizeof text); }
 
 static size_t bytes_used(void (*call)(void)) {
@@ -118,6 +119,7 @@ int main(void) {
     capture_frame(&capture, 63, RUZNAVO_MAX_SWEEPS, llrs, N);
     capture_end(&capture, mask, N);
     failed += measure("replay", call_replay, 80000) + measure("mask_by_weight", call_mask_by_weight, 2500) +
-              measure("mask_for_distance", call_mask_for_distance, 4500);
+              measure("mask_for_distance", call_mask_for_distance, 4500) +
+              measure("mask_by_erasure", call_mask_by_erasure, 18000);
     return failed != 0;
 }

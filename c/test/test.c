@@ -35,10 +35,12 @@ enum call {
     MASK_BY_WEIGHT,
     MASK_FOR_DISTANCE,
     FLIP,
+    MASK_BY_ERASURE,
     CALLS
 };
 static const char *const call_names[CALLS] = {"samples", "encode", "transform",      "plan",              "check_plan",
-                                              "decode",  "replay", "mask_by_weight", "mask_for_distance", "flip"};
+                                              "decode",  "replay", "mask_by_weight", "mask_for_distance", "flip",
+                                              "mask_by_erasure"};
 
 /* The numbers that each call can answer, as bits. */
 static const unsigned answers[CALLS] = {
@@ -52,13 +54,14 @@ static const unsigned answers[CALLS] = {
     1u << 0 | 1u << 1 | 1u << 11 | 1u << 16,
     1u << 0 | 1u << 1 | 1u << 11 | 1u << 16 | 1u << 17,
     0x9Fu | 1u << 11 | 1u << 12 | 1u << 18 | 1u << 19,
+    1u << 0 | 1u << 1 | 1u << 11 | 1u << 16 | 1u << 20,
 };
 
 /* The least exponent of N of an accepted call: flip attempts need nine unfrozen positions. */
-static const int least_stage_of[CALLS] = {1, 1, 1, 1, 1, 1, 1, 1, 1, 4};
+static const int least_stage_of[CALLS] = {1, 1, 1, 1, 1, 1, 1, 1, 1, 4, 1};
 
 static uint64_t seed = 1, case_number;
-enum { NUMBERS = RUZNAVO_BAD_ATTEMPTS + 1 };
+enum { NUMBERS = RUZNAVO_BAD_RATE + 1 };
 static uint64_t number_seen[CALLS][NUMBERS], stage_seen[CALLS][REF_MAX_STAGE + 1], sweeps_seen[REF_MAX_SWEEPS + 1],
     found_seen[2];
 
@@ -725,6 +728,37 @@ static void mask_by_weight_case(struct random *r) {
     if (number == 0) stage_seen[MASK_BY_WEIGHT][ref_exponent(N)]++;
 }
 
+/* Rates of every size, the least and the largest between 0 and 1 among them. */
+static double drawn_rate(struct random *r) {
+    static const double edges[] = {0.5, 0.25, 0x1p-1074, 0x1p-1022, 0x1.fffffffffffffp-1, 0x1p-53, 0.9};
+    if (random_chance(r, 0.3)) return edges[random_below(r, sizeof edges / sizeof *edges)];
+    double z = random_uniform(r);
+    return random_chance(r, 0.2) ? ldexp(z, -(int)random_below(r, 1060)) : random_chance(r, 0.2) ? 1 - ldexp(z, -40) : z;
+}
+
+/* What is no rate. */
+static double bad_rate(struct random *r) {
+    static const double bad[] = {0, -0.0, 1, 0x1.0000000000001p0, -0.5, -0x1p-1074, INFINITY, -INFINITY, NAN, 1e308};
+    return bad[random_below(r, sizeof bad / sizeof *bad)];
+}
+
+static void mask_by_erasure_case(struct random *r) {
+    size_t N = (size_t)1 << random_from(r, 1, REF_MAX_STAGE), K = random_below(r, N + 1), room = enough(r, N);
+    double z = drawn_rate(r);
+    for (int d = damages(r); d > 0; d--) switch (random_below(r, 4)) {
+        case 0: N = other_length(r, N); break;
+        case 1: K = random_chance(r, 0.5) ? N + 1 : random_chance(r, 0.5) ? SIZE_MAX : other_length(r, N); break;
+        case 2: z = bad_rate(r); break;
+        default: room = too_short(r, N);
+        }
+    place(r, MASK, room, 1, NULL);
+    static const enum slot used[] = {MASK};
+    uint64_t answer = ruznavo_mask_by_erasure(N, K, z, buffer(MASK), room);
+    int number = ref_mask_by_erasure(N, K, z, twin(MASK), room);
+    compare(MASK_BY_ERASURE, answer, answer_of(number, 0), used, 1);
+    if (number == 0) stage_seen[MASK_BY_ERASURE][ref_exponent(N)]++;
+}
+
 /* Distances about the rows' weights, powers of two, and others. */
 static size_t drawn_distance(struct random *r, size_t N) {
     if (random_chance(r, 0.1)) return SIZE_MAX;
@@ -968,6 +1002,8 @@ static void run_mask(void) {
     memset(mask, 7, sizeof mask);
     if (ruznavo_mask_for_distance(8, 3, 5, mask, 8) != 0 || mask[0] != 7 || mask[7] != 7) stop("no mask of distance 5");
     if (ruznavo_mask_for_distance(8, 3, 4, mask, 8) != 256 || memcmp(mask, expected, 8)) stop("a mask of distance 4");
+    static const uint8_t at_half[4] = {1, 1, 0, 0};
+    if (ruznavo_mask_by_erasure(4, 2, 0.5, mask, 4) || memcmp(mask, at_half, 4)) stop("the mask of 4 and 2 at 1/2");
 }
 
 /* ---- what was tried */
@@ -1038,7 +1074,8 @@ static void all_kinds_tried(void) {
 int main(int argc, char **argv) {
     static void (*const run[CALLS])(struct random *) = {
         samples_case, encode_case, transform_case,      plan_case,             check_plan_case,
-        decode_case,  replay_case, mask_by_weight_case, mask_for_distance_case, flip_case};
+        decode_case,  replay_case, mask_by_weight_case, mask_for_distance_case, flip_case,
+        mask_by_erasure_case};
     uint64_t cases = argc > 2 ? strtoull(argv[2], NULL, 10) : 50000, first = argc > 3 ? strtoull(argv[3], NULL, 10) : 0;
     if (argc > 1) seed = strtoull(argv[1], NULL, 10);
     signal(SIGSEGV, fault);

@@ -16,14 +16,13 @@ use Rattle.model.specs.Encoding.{isUnfrozen, unfrozen, payloadOf}
 use Rattle.model.specs.Bounds.{Small, limit}
 use Rattle.model.specs.Crc.{isMultiple}
 use Rattle.model.specs.Attempts.{lastInputs, passBits, leafBefore, leavesBefore, rankedLeaf, attemptMask, maskOf, attemptPayload, attemptsMade, Flipped, flipDecode, Ranked}
-use Rattle.model.proofs.Lists.{total-ext, absurd-bool}
+use Rattle.model.proofs.Lists.{total-ext, absurd-bool, drop-over}
 use Rattle.model.proofs.Transform.{add-monoid}
 use Rattle.model.proofs.Payload.{length-payload}
 use Rattle.model.proofs.LeafValues.{last-small}
 use Rattle.model.proofs.Attempts.{first-holds, first-least, ranked-is, ranked-leaf}
 use Rattle.words.specs.Words.{word, soft}
 use Rattle.words.proofs.Laws.{soft-at, small-size}
-use Rattle.decisions.proofs.Reading.{drop-over}
 use Rattle.scan.proofs.Keep.{row-start}
 use Rattle.scan.proofs.Rounds.{small-list}
 use Rattle.leaves.specs.Pass.{Passable, Passed}

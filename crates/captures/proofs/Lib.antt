@@ -1,5 +1,4 @@
 -- Laws that the proofs of `captures` cite; `Laws` and `Numbers` serve callers too.
 pub mod Numbers
-mod Stores
 mod Trailer
 pub mod Laws

@@ -4,7 +4,7 @@ use mathlib.Core.List.{List, [], _∷_, _++_, append-assoc}
 use Prim.Native.Nat.{ℕ, suc, _+_, _<_, _≤_}
 use native.Mathlib.Numerals.{add-one}
 use native.Mathlib.Omega.{arith}
-use lib.ListN.{length, getD, set, take, drop, length-append, length-drop}
+use lib.ListN.{length, getD, set, take, drop, length-append}
 use lib.Seq.{drop-cons, take-suc, length-take-le, set-at}
 use Rattle.model.specs.Lists.{over}
 
@@ -17,10 +17,6 @@ over-more {A} new old i v d e lt =
     ∙ set-at new (getD old i d) (drop (suc i) old) v i e
     ∙ sym (append-assoc new (v ∷ []) (drop (suc i) old))
     ∙ ap (λ (n : ℕ). (new ++ (v ∷ [])) ++ drop n old) (sym len)
-
-pub length-over : {A : Type 0} (new old : List A) → length new ≤ length old → length (over new old) ≡ length old
-unfolding over
-length-over new old h = length-append new (drop (length new) old) ∙ omega (arith, h, length-drop (length new) old)
 
 pub over-none : {A : Type 0} (old : List A) → over [] old ≡ old
 unfolding over

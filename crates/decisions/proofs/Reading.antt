@@ -8,30 +8,19 @@ use native.Mathlib.Omega.{arith}
 use lib.Dec.{eqb}
 use lib.IntN.{ℤ}
 use lib.ListN.{length, getD, take, drop, replicate, take-append-drop, List·getD-append}
-use lib.Seq.{length-take-le, take-at, drop-at, getD-append-add, getD-drop}
+use lib.Seq.{length-take-le, getD-append-add, getD-drop}
 use Rattle.model.specs.Lists.{tabulate, total, over, bit}
 use Rattle.model.specs.Soft.{plus, softOf}
 use Rattle.model.specs.Encoding.{polarMatrix, times, transform, isUnfrozen, isKnownOne, unfrozen, payloadOf, frozenMatch}
 use Rattle.model.specs.Scan.{undecidedIn}
-use Rattle.model.proofs.Lists.{length-tabulate, getD-tabulate, bit-small}
+use Rattle.model.proofs.Lists.{length-tabulate, getD-tabulate, bit-small, length-over, take-over, drop-over}
 use Rattle.model.proofs.Transform.{length-transform, transform-bit, undo}
 use Rattle.model.proofs.Undecided.{payload-decided, check-decided, payload-undecided, check-undecided}
 use Rattle.words.specs.Words.{word, write}
 use Rattle.words.proofs.Store.{write-is, write-ext, write-over}
 use Rattle.transform.specs.Steps.{AllBits}
 use Rattle.decisions.specs.Bits.{decisionAt, negativeAt, wordDecisions, WordRead, ReadOff}
-use Rattle.decisions.proofs.Buffers.{length-over}
 use Rattle.decisions.proofs.Folds.{bit-most, no-ties}
-
--- the front of an overwritten buffer, and what follows it
-module _ {A : Type 0} (new old : List A) (n : ℕ) (e : length new ≡ n) where
-  pub take-over : take n (over new old) ≡ new
-  unfolding over
-  take-over = take-at new (drop (length new) old) n e
-
-  pub drop-over : drop n (over new old) ≡ drop n old
-  unfolding over
-  drop-over = drop-at new (drop (length new) old) n e ∙ ap (λ (k : ℕ). drop k old) e
 
 -- words stored from the front on
 pub write-front : {A : Type 0} (z : A) (w : List A) (n : ℕ) (f : ℕ → A) → n ≤ length w → write w 0 n f ≡ over (tabulate n f) w

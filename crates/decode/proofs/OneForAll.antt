@@ -20,7 +20,7 @@ use Rattle.model.proofs.Undecided.{length-hard, length-decided}
 use Rattle.model.proofs.Calls.{accepted-size, accepted-soft, ones-inside}
 use Rattle.model.proofs.Theorems.{one-for-all}
 use Rattle.words.specs.Words.{word}
-use Rattle.decisions.proofs.Reading.{take-over}
+use Rattle.model.proofs.Lists.{take-over}
 use Rattle.decode.specs.Calls.{Lent, Given, callOf}
 use Rattle.decode.specs.TwoCalls.{Ended, Ends, SameRoom, negatedCall, NegatedBy}
 

@@ -7,37 +7,20 @@ use native.Mathlib.Omega.{arith}
 use lib.Count.{ones}
 use lib.Dec.{eqb, leb, leb→le}
 use lib.ListN.{length}
-use borrow.Author.Tests.{eq-eqb, ne-eqb, leb-true}
+use borrow.Author.Tests.{ne-eqb}
 use Rattle.model.specs.Lists.{tabulate, over}
 use Rattle.model.specs.Refusals.{refusal, exponent, row-11}
 use Rattle.model.specs.Masks.{ahead, weightByte, weightMask, row-16, weightNumber, weightMaskAfter}
 use Rattle.model.specs.Distance.{hasDistance, noMask, row-17, distanceNumber, distanceFound, distanceMaskAfter}
-use Rattle.model.proofs.Lists.{absurd-bool, and-l, true-T}
+use Rattle.model.proofs.Lists.{and-l, true-T}
 use Rattle.model.proofs.Refusals.{pass, passes, exponent-power}
+use Rattle.model.proofs.MaskCalls.{Fits, fits}
 use Rattle.model.proofs.RankOrder.{weight-made, weight-unfrozen}
 use Rattle.model.proofs.LargestWeight.{last-row}
 use Rattle.model.proofs.Distance.{has-row, none-exact}
 use Rattle.masks.specs.Answers.{answerNumber, answerFound, refusedBy}
 use Rattle.masks.specs.declared.ForDistance.{ForDistance}
 use Rattle.masks.specs.declared.ForDistance.the-variants.{Written, NoMask}
-
--- the tests of an accepted call
-pub record Fits (N K room : ℕ) : Type 0 where
-  pub sized : exponent N ≡ 0 → ⊥
-  pub few : K ≤ N
-  pub roomy : N ≤ room
-
-pub fits : (N K room : ℕ) → weightNumber N K room ≡ 0 → Fits N K room
-unfolding weightNumber
-fits N K room e =
-    let one = passes 1 (not (eqb (exponent N) 0)) (row-16 K N ∷ row-11 N room ∷ []) (λ z. omega arith) e in
-    let two = passes 16 (leb K N) (row-11 N room ∷ []) (λ z. omega arith) (one .1) in
-    let three = passes 11 (leb N room) [] (λ z. omega arith) (two .1) in
-    record {
-      sized = λ z. absurd-bool _ (one .0) (ap not (eq-eqb (exponent N) 0 z));
-      few = leb-true K N (two .0);
-      roomy = leb-true N room (three .0);
-    }
 
 module _ (N K : ℕ) (out : List ℕ) where
   pub refused : {number : ℕ} → number ≡ weightNumber N K (length out) → (number ≡ 0 → ⊥) → out ≡ weightMaskAfter N K out

@@ -6,6 +6,8 @@ pub mod Transform
 pub mod Payload
 pub mod FrozenPositions
 pub mod Refusals
+pub mod Stores
+pub mod MaskCalls
 pub mod Paths
 pub mod Others
 pub mod Shortcuts
@@ -44,6 +46,11 @@ pub mod Crc
 pub mod Ranking
 pub mod LeafValues
 pub mod Attempts
+pub mod Fractions
+pub mod Rounding
+pub mod RateSteps
+pub mod RateBound
+pub mod RateOrder
 pub mod Theorems
 pub mod Frames
 pub mod CaptureExamples

@@ -7,11 +7,11 @@ use native.Mathlib.Nat.{zero-add, add-zero, suc-add, add-suc, not-suc-le-zero, l
 use native.Mathlib.Omega.{arith}
 use borrow.Author.Tests.{le-leb}
 use lib.Dec.{T, eqb, leb, leb→le, eqb→eq, eqb-refl, eqb·suc-suc, eqb·suc-zero, eqb·zero-suc}
-use lib.ListN.{length, getD, take, drop, replicate, length-drop, List·getD-append}
+use lib.ListN.{length, getD, take, drop, replicate, length-append, length-drop, List·getD-append}
 use lib.Pow.{pow-lt}
-use lib.Seq.{getD-append-add, getD-drop, take-all}
+use lib.Seq.{getD-append-add, getD-drop, take-all, take-at, drop-at}
 use native.Mathlib.Decide.{decLe, decLt}
-use Rattle.model.specs.Lists.{tabulate, total, every, same, atMost, bit, onOnes}
+use Rattle.model.specs.Lists.{tabulate, total, every, same, atMost, bit, onOnes, over}
 
 pub double : (t : ℕ) → 2 ^ suc t ≡ 2 ^ t + 2 ^ t
 double t = omega arith
@@ -211,6 +211,12 @@ same→eq [] (y ∷ ys) t = absurd t
 same→eq (x ∷ xs) [] t = absurd t
 same→eq (x ∷ xs) (y ∷ ys) t = ap₂ (λ x xs. x ∷ xs) (eqb→eq x y (and-l (eqb x y) (same xs ys) t)) (same→eq xs ys (and-r (eqb x y) (same xs ys) t))
 
+-- a place within a list holds the same, whatever stands for what is beyond its end
+pub getD-any : {A : Type 0} (l : List A) (i : ℕ) (d e : A) → i < length l → getD l i d ≡ getD l i e
+getD-any [] i d e h = absurd (not-suc-le-zero h)
+getD-any (x ∷ l) zero d e h = refl
+getD-any (x ∷ l) (suc i) d e h = getD-any l i d e (le-of-suc-le-suc h)
+
 -- ---- what is left of a list from a place on
 module _ {A : Type 0} (l : List A) (i : ℕ) where
   pub first-left : (d : A) → getD (drop i l) 0 d ≡ getD l i d
@@ -333,3 +339,18 @@ module _ {A : Type 0} (op : A → A → A) (e : A) (M : Monoid op e) where
       ∙ swap (f zero) (f (suc k)) (total op e n (λ j. cond (eqb j k) e (f (suc j))))
       ∙ ap (λ x. op (f (suc k)) x) (ap₂ op (sym (rw (eqb·zero-suc k)))
       (total-ext n (λ j. cond (eqb j k) e (f (suc j))) (λ j. cond (eqb (suc j) (suc k)) e (f (suc j))) (λ j l. rw (eqb·suc-suc j k))))
+
+-- ---- a buffer whose front was overwritten
+pub length-over : {A : Type 0} (new old : List A) → length new ≤ length old → length (over new old) ≡ length old
+unfolding over
+length-over new old h = length-append new (drop (length new) old) ∙ omega (arith, h, length-drop (length new) old)
+
+-- its front, and what follows it
+module _ {A : Type 0} (new old : List A) (n : ℕ) (e : length new ≡ n) where
+  pub take-over : take n (over new old) ≡ new
+  unfolding over
+  take-over = take-at new (drop (length new) old) n e
+
+  pub drop-over : drop n (over new old) ≡ drop n old
+  unfolding over
+  drop-over = drop-at new (drop (length new) old) n e ∙ ap (λ (k : ℕ). drop k old) e

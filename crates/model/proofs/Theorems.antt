@@ -9,6 +9,7 @@ use native.Mathlib.Nat.{le-trans}
 use native.Mathlib.Omega.{arith}
 use lib.Count.{ones}
 use lib.Dec.{T}
+use lib.Ieee.{Float}
 use lib.IntN.{ℤ, negℤ}
 use lib.ListN.{length, getD, replicate}
 use lib.Pow.{pow-mono}
@@ -26,6 +27,7 @@ use Rattle.model.specs.Masks.{weight, matrixRow, ranksBefore, weightMask
 use Rattle.model.specs.Distance.{UnfrozenAt, AtLeast, LeastWeight, leastRow, oneAt, single, hasDistance, noMask}
 use Rattle.model.specs.Crc.{Multiple, isMultiple}
 use Rattle.model.specs.Attempts.{lastInputs, rankedLeaf, maskOf, Ranked, Found, FlipCall, flipNumber, flipAnswer, flipMatched, flipAttempts, flipPayload}
+use Rattle.model.specs.Erasure.{rate, fractionOf, exactRate, Near, isF64, Probability, comesBefore, erasureMask, isRate}
 use Rattle.model.specs.Bounds.{SmallAll, Under, Within, Held, AllUnder, InRange, SumsMeet, limit, cap}
 use Rattle.model.proofs.FrozenPositions.{kinds-alike, allowed-alike, allowed-back, planner-alike, cycles-alike, counts-alike}
 use Rattle.model.proofs.Shortcuts.{sound-start}
@@ -55,6 +57,10 @@ use Rattle.model.proofs.Distance.{has-says, says-has, no-mask-says, say
 use Rattle.model.proofs.Crc.{test-multiple, multiple-test}
 use Rattle.model.proofs.LeafValues.{last-small, last-known}
 use Rattle.model.proofs.Attempts.{ranked-is, ranked-leaf, mask-of, flip-found, signs-flip, flip-size}
+use Rattle.model.proofs.Fractions.{near-coarser}
+use Rattle.model.proofs.RateBound.{rate-probability, exact-small, rate-within}
+use Rattle.model.proofs.Rounding.{den-pos}
+use Rattle.model.proofs.RateOrder.{erasure-made, erasure-unfrozen, frozen-before}
 use Rattle.model.proofs.Bounds.{ones-any, ones-none, within-sweeps, within-start, within-all, within-held, held-sweeps, in-range, soft-under, under-plus, under-mono, cap-limit}
 
 -- ---- 1. Every accepted decode, whichever allowed plan it is given, equals SCAN walked to the last leaf. LLRs are finite.
@@ -499,3 +505,24 @@ unfolding flipAnswer flipMatched flipAttempts flipPayload
 signs-match c ok payload fits bits M signs =
     let e = signs-flip (exponent (length (c .mask))) (c .mask) payload (c .llrs) (flip-size c ok) fits bits signs M (c .sweeps) (c .allowed) in
     (rw (ok, e), rw (ok, e), λ buffer. rw (ok, e))
+
+-- ---- 13. Masks from an erasure rate, for N at most 1024 and a rate z that an f64 holds, strictly between 0 and 1.
+module _ (n : ℕ) (most : n ≤ 10) (z : Float) (held : T (isF64 z)) (inside : isRate z ≡ true) where
+  -- Each position's rate is a finite number from 0 to 1 ..
+  pub rates-finite : (i : ℕ) → Probability (rate n z i)
+  rates-finite i = rate-probability n i z most held inside
+
+  -- .. and within 2 ^ -40 of the same rule in whole-number fractions, which gives a fraction from 0 to 1. No denominator is 0.
+  pub exact-fractions : (i : ℕ) → (0 < fractionOf (rate n z i) .den) × (0 < exactRate n z i .den) × (exactRate n z i .num ≤ exactRate n z i .den)
+  exact-fractions i = let e = exact-small n i z most held inside in (den-pos (rate n z i), e .0, e .1)
+
+  pub rates-near : (i : ℕ) → Near (2 ^ 40) 1 (fractionOf (rate n z i)) (exactRate n z i)
+  rates-near i = near-coarser (2 ^ 40) 4 1 (fractionOf (rate n z i)) (exactRate n z i) (omega arith) (omega arith) (rate-within n i z most held inside)
+
+  -- The mask has K unfrozen positions, and the N - K frozen ones come before them: they have larger rates, or a lower index and the same rate.
+  pub erasure-counts : (K : ℕ) → K ≤ 2 ^ n → PlainMask n (erasureMask n K z) × (unfrozen (erasureMask n K z) ≡ K)
+  erasure-counts K few = (erasure-made n K z, erasure-unfrozen n K z most held inside few)
+
+  pub largest-frozen : (K i j : ℕ) → i < 2 ^ n → j < 2 ^ n → getD (erasureMask n K z) i 0 ≡ 1 → getD (erasureMask n K z) j 0 ≡ 0
+      → comesBefore (rate n z i) i (rate n z j) j ≡ true
+  largest-frozen K = frozen-before n K z most held inside

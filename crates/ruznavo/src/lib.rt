@@ -1,6 +1,7 @@
 // The library for a C host: numbers, and slices of bytes, words and samples. Each answer is one number.
 use decode::decode;
 use encode::encode;
+use erasure::mask_by_erasure;
 use kinds::KINDS;
 use masks::ForDistance;
 use masks::mask_by_weight;
@@ -19,6 +20,7 @@ ghost use Rattle.model.specs.Refusals.{samplesNumber, samplesLlrs, encodeNumber
 ghost use Prim.Native.Nat.{_+_, _*_, _^_};
 ghost use Rattle.model.specs.Masks.{weightNumber, weightMaskAfter};
 ghost use Rattle.model.specs.Distance.{distanceMaskAfter};
+ghost use Rattle.model.specs.Erasure.{erasureNumber, erasureMaskAfter};
 ghost use Rattle.masks.specs.Answers.{answerNumber, answerFound};
 ghost use Rattle.transform.specs.Calls.{transformNumber, transformBytes};
 ghost use Rattle.decode.specs.Calls.{lent, given};
@@ -165,6 +167,15 @@ pub extern "C" fn ruznavo_flip(
         (now (payload .entry)) (now (payload .exit)) (now (work .entry)) (now (work .exit)) r ⌝ }
 {
     flip_answer(decode_flips(mask, sweeps, attempts, llrs, payload, work))
+}
+
+// The mask of N and K from the measured erasure rate z. The answer is the number.
+#[no_mangle]
+pub extern "C" fn ruznavo_mask_by_erasure(n: usize, k: usize, z: f64, mask: &mut [u8]) -> u64
+    ensures { λ r. ⌜ r ≡ erasureNumber n k z (length (now (mask .entry))) ⌝ }
+    ensures { λ _. ⌜ now (mask .exit) ≡ erasureMaskAfter n k z (now (mask .entry)) ⌝ }
+{
+    mask_by_erasure(n, k, z, mask) as u64
 }
 
 // A capture replayed: the text of its totals goes to the front of out. The answer is the number + 256 × the length of the text.

@@ -67,7 +67,7 @@ pub fn field(line: &[u8], k: usize) -> &[u8]
 }
 
 // The number of some digits: those before the last eight are its high half.
-fn value(digits: &[u8]) -> usize {
+pub fn value(digits: &[u8]) -> usize {
     let high = number(part(digits, 0, minus(digits.len(), 8))) as usize;
     high * 4294967296 + number(digits) as usize
 }

@@ -11,7 +11,7 @@ use Rattle.model.specs.Encoding.{payloadOf}
 use Rattle.model.specs.Crc.{isMultiple}
 use Rattle.model.proofs.Payload.{length-payload}
 use Rattle.model.proofs.Attempts.{payload-bits}
-use Rattle.decisions.proofs.Reading.{take-over}
+use Rattle.model.proofs.Lists.{take-over}
 use borrow.Author.Needs.{needs}
 use Rattle.attempts.proofs.payload_matches.Statement.{statement}
 use Rattle.attempts.proofs.payload_matches.Tie as tie

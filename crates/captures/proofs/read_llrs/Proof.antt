@@ -9,8 +9,8 @@ use mir.Val.{toZ, ofZ}
 use borrow.Author.Needs.{needs}
 use mathlib.Core.List.{List}
 use Rattle.model.specs.Captures.{number16At, signed16}
+use Rattle.model.proofs.Stores.{Stored, none-stored, one-stored, all-stored}
 use Rattle.captures.proofs.Numbers.{word-small}
-use Rattle.captures.proofs.Stores.{Stored, none-stored, one-stored, all-stored}
 use Rattle.captures.proofs.read_llrs.Statement.{statement}
 use Rattle.captures.proofs.read_llrs.Tie as tie
 

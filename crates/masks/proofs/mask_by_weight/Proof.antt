@@ -4,7 +4,8 @@ use borrow.Author.Needs.{needs}
 use lib.ListN.{length}
 use Rattle.model.specs.Masks.{weightNumber}
 use Rattle.model.proofs.Refusals.{length-small}
-use Rattle.masks.proofs.Calls.{fits, refused, written}
+use Rattle.model.proofs.MaskCalls.{fits}
+use Rattle.masks.proofs.Calls.{refused, written}
 use Rattle.masks.proofs.mask_by_weight.Statement.{statement}
 use Rattle.masks.proofs.mask_by_weight.Tie as tie
 

@@ -1,0 +1,2 @@
+-- What the contracts of `selection` cite.
+pub mod Places
