@@ -5,7 +5,7 @@ The texts come from the model here and in model.py, which is written from docume
 and the totals of the frames decoded one by one. Where a text or a number is plain from them, the model is compared with that.
 Run: python3 tools/capture_vectors.py > crates/replay_test/stdin
 With the name of a case it prints that case's capture instead; crates/polar_replay/stdin is the one named `several drains`.
-With --run PROGRAM it runs the program, target/bin/polar_replay, on each case's capture as a file, on a capture for each answer through a pipe
+With --run PROGRAM it runs the program, crates/polar_replay/out/polar_replay, on each case's capture as a file, on a capture for each answer through a pipe
 that is filled bit by bit, on lengths about the largest and on an input without an end, and compares what it prints with the model's text.
 
 A line of the file is one of these:

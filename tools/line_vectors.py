@@ -5,7 +5,7 @@ The answers come from the model here and in model.py, which is written from docu
 planner and its cycles, the line's grammar, its refusals and its output. Where an answer or a number is plain from them, the model is
 compared with that.
 Run: python3 tools/line_vectors.py > crates/line_test/stdin
-With the number of a case it prints that case's input instead, for target/bin/polar_line.
+With the number of a case it prints that case's input instead, for crates/polar_line/out/polar_line.
 
 A line of the file is one of these:
   # TEXT               nothing

@@ -1,4 +1,6 @@
 // Pass one and the attempts after it, up to the first whose payload is a multiple of the generator.
+#![tactic(auto)]
+
 ghost use Rattle.std.specs.Prelude.{◌≡◌, ◌≤◌, min, T, length};
 ghost use Rattle.model.specs.Lists.{at_most, over};
 ghost use Rattle.model.specs.Encoding.{unfrozen, payload_of};

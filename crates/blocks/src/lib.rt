@@ -1,4 +1,6 @@
 // The transform of short blocks: two and four bits by bytes, eight and sixteen by words.
+#![tactic(auto)]
+
 ghost use Rattle.std.specs.Prelude.{◌≡◌, ◌/◌, ◌<◌, length};
 ghost use Rattle.std.specs.Int.Bits.{bit_xor, bit_and};
 ghost use Rattle.model.specs.Encoding.{transform};

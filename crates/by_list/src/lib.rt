@@ -1,4 +1,6 @@
 // The message of an uncut node, from the incoming list that was made for its right child, on words.
+#![tactic(auto)]
+
 ghost use Rattle.std.specs.Prelude.{◌≡◌, ◌+◌, ◌%◌, ◌≤◌, length};
 ghost use Rattle.words.specs.Words.{add_word, word};
 ghost use Rattle.halves.specs.Halves.{box_plus, Places, Combinable, RightListAt, node_words};

@@ -1,4 +1,6 @@
 // Captures, which a replay reads: their 16-bit numbers, their trailer, and the LLRs of a frame.
+#![tactic(auto)]
+
 ghost use Rattle.std.specs.Prelude.{◌≡◌, ◌+◌, ◌*◌, ◌≤◌, ◌<◌, length};
 ghost use Rattle.model.specs.Lists.{tabulate, same, part, over};
 ghost use Rattle.model.specs.Captures.{number_of, number16_at, signed16, signature};

@@ -1,4 +1,6 @@
 // Sums that are clamped to an LLR's range, and LLRs as bytes.
+#![tactic(auto)]
+
 ghost use Rattle.std.specs.Prelude.{◌≡◌, ◌*◌, ◌≤◌, ◌<◌, length};
 ghost use Rattle.model.specs.Lists.{over};
 ghost use Rattle.model.specs.Soft.{soft_of};

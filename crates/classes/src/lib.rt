@@ -1,5 +1,7 @@
 // What is gathered over a class of places of a node's incoming list: sums, the two least sizes, the product of the signs. A class is the places that are
 // equal modulo a period p.
+#![tactic(auto)]
+
 ghost use Rattle.std.specs.Prelude.{◌≡◌, false, List, ℕ, ◌+◌, ◌*◌, ◌%◌, ◌<◌, ◌≤◌, min, max, ℤ, pos, length, drop};
 ghost use Rattle.std.specs.Int.Signed.{mag};
 ghost use Rattle.model.specs.Soft.{mark, negative};
@@ -38,7 +40,7 @@ fn class_sum(l: &[i32], p: usize, c: usize) -> i32
 }
 
 // What the places 0, 1, 2 and 3 modulo 4 subtract their values from: the sum over the place's class, or more.
-#[derive(Drop)]
+#[derive(Clone, Copy)]
 pub struct Totals {
     pub at0: i32,
     pub at1: i32,
@@ -84,7 +86,7 @@ pub fn class_totals(l: &[i32], p: usize) -> Totals
 }
 
 // What is gathered of a class: the least size, the one next to it, and whether the product of the signs is negative.
-#[derive(Drop)]
+#[derive(Clone, Copy)]
 pub struct Gathered {
     pub least: u32,
     pub next: u32,

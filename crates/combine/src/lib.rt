@@ -1,4 +1,6 @@
 // The message of an uncut node, from its incoming list and its children's messages, on words.
+#![tactic(auto)]
+
 ghost use Rattle.std.specs.Prelude.{◌≡◌, cond, ◌+◌, pos, length};
 ghost use Rattle.model.specs.Soft.{mark};
 ghost use Rattle.words.specs.Words.{box_word, add_word, word, Word, Words, Holds};

@@ -1,4 +1,6 @@
 // The CRC of flip attempts: bits are divided by the generator, in a register of eight bits.
+#![tactic(auto)]
+
 ghost use Rattle.std.specs.Prelude.{◌≡◌, ◌+◌, ◌%◌, ◌≤◌, T, eqb, length};
 ghost use Rattle.model.specs.Lists.{at_most};
 ghost use Rattle.model.specs.Crc.{is_multiple};

@@ -1,4 +1,6 @@
 // What is read off the soft values: hard bits, payload, frozen check and the number of undecided bits.
+#![tactic(auto)]
+
 ghost use Rattle.std.specs.Prelude.{◌≡◌, cond, not, ℕ, ◌≤◌, ◌<◌, T, eqb, neg_ℤ, length, get_or, take, replicate};
 ghost use Rattle.model.specs.Lists.{at_most, bit, over};
 ghost use Rattle.model.specs.Encoding.{max_mask, is_unfrozen, is_known_one, unfrozen, payload_of, frozen_match};

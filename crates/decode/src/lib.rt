@@ -1,4 +1,6 @@
 // The decoder: the tests of a call, SCAN's soft values by the plan, and what is read off them.
+#![tactic(auto)]
+
 ghost use Rattle.std.specs.Prelude.{◌≡◌, [], ◌∷◌};
 ghost use Rattle.model.specs.Refusals.{llrs_in_range, refusal, row_3, row_4, row_11, row_12};
 ghost use Rattle.decode.specs.Calls.{lent, given, Outcome};

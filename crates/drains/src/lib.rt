@@ -1,4 +1,6 @@
 // Prints the totals of a capture's drains into a buffer that the caller lends. Text that has no room is left out.
+#![tactic(auto)]
+
 ghost use Rattle.std.specs.Prelude.{◌∷◌, ◌≤◌, length};
 ghost use Rattle.printer.specs.Text.{nat_text};
 ghost use Rattle.printer.specs.Put.{Put, Printed};

@@ -1,4 +1,6 @@
 // The encoder.
+#![tactic(auto)]
+
 ghost use Rattle.std.specs.Prelude.{◌≡◌, [], ◌∷◌, ◌≤◌, length};
 ghost use Rattle.model.specs.Lists.{over};
 ghost use Rattle.model.specs.Encoding.{unfrozen, place};

@@ -1,4 +1,6 @@
 // Masks from a measured erasure rate.
+#![tactic(auto)]
+
 ghost use Rattle.std.specs.Prelude.{◌≡◌, true, ◌+◌, ◌-◌, ◌*◌, ◌^◌, ◌<◌, ◌≤◌, length, take};
 ghost use Rattle.model.specs.Lists.{tabulate, bit, over};
 ghost use Rattle.model.specs.Erasure.{square, worse, rate, Probability, comes_before, erasure_mask, is_rate, erasure_number, erasure_mask_after};
@@ -9,7 +11,7 @@ use inputs::{both, exponent_of, tested};
 use selection::{count_beyond, position_of, select};
 
 // A position's erasure rate and the position, held together.
-#[derive(Drop)]
+#[derive(Clone, Copy)]
 pub struct Rate {
     pub value: f64,
     pub index: usize,

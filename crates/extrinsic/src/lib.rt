@@ -1,4 +1,6 @@
 // The value stored for each place of a cut node: what was gathered over the place's class, without the place's own value.
+#![tactic(auto)]
+
 ghost use Rattle.std.specs.Prelude.{◌≡◌, cond, ℕ, ◌+◌, ◌%◌, ◌<◌, ◌≤◌, ◌-ℤ◌, length};
 ghost use Rattle.words.specs.Words.{Word, word, write, Words};
 ghost use Rattle.extrinsic.specs.Values.{Sizes, leave_out, total_at, gathered_at};

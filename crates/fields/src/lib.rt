@@ -1,4 +1,6 @@
 // The fields of a line: where they end, digits, and decimal numbers of signed 32 bits.
+#![tactic(auto)]
+
 ghost use Rattle.std.specs.Prelude.{◌≡◌, ◌+◌, ◌<◌, ◌≤◌, max, length, drop};
 ghost use Rattle.model.specs.Soft.{signed};
 ghost use Rattle.fields.specs.Grammar.{first_of, is_digit, is_digits, digit, largest};

@@ -1,4 +1,6 @@
 // Positions that are frozen to 1: the word of the frozen values, and the numbers that are negated where that word has a 1.
+#![tactic(auto)]
+
 ghost use Rattle.std.specs.Prelude.{◌≡◌, ◌+◌, ◌*◌, ◌^◌, ◌≤◌, neg_ℤ, length, get_or};
 ghost use Rattle.model.specs.Lists.{bit, on_ones, part};
 ghost use Rattle.model.specs.Encoding.{is_known_one, known_bits, known_word};

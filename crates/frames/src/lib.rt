@@ -1,4 +1,6 @@
 // A frame of a capture: read, decoded along the planner's plan, and what it adds to its drain's totals.
+#![tactic(auto)]
+
 ghost use Rattle.std.specs.Prelude.{◌≡◌, [], ◌∷◌, ◌+◌, ◌≤◌, length};
 ghost use Rattle.model.specs.Captures.{max_capture, max_drain, frame_size, differing, frame_at};
 ghost use Rattle.frames.specs.Frames.{Planned, Roomy, frame_of, FrameReplayed};

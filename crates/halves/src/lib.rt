@@ -1,4 +1,6 @@
 // The children's incoming lists, made from the halves of a node's incoming list and the other child's message, on words.
+#![tactic(auto)]
+
 ghost use Rattle.std.specs.Prelude.{◌≡◌, true, false, cond, ℕ, ◌+◌, ◌%◌, ◌<◌, ◌≤◌, pos, length};
 ghost use Rattle.model.specs.Soft.{mark};
 ghost use Rattle.words.specs.Words.{word, write, Holds, Words, Finite};

@@ -1,4 +1,6 @@
 // Tests of inputs that several calls share.
+#![tactic(auto)]
+
 ghost use Rattle.std.specs.Prelude.{◌≡◌, cond, ◌&&◌, ℕ, ◌≤◌, max, leb, length};
 ghost use Rattle.model.specs.Lists.{at_most, bit};
 ghost use Rattle.model.specs.Encoding.{unfrozen, is_unfrozen, is_known_one};

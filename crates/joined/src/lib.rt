@@ -1,5 +1,7 @@
 // What the three other of four classes of places add to what was gathered over a class: for nodes of type II the box of the others' sums, for those of
 // type IV the sum of the others' boxes.
+#![tactic(auto)]
+
 ghost use Rattle.std.specs.Prelude.{◌≡◌, ℕ, ◌+◌, ◌%◌, ◌≤◌, nat_abs, ◌+ℤ◌, length};
 ghost use Rattle.model.specs.Soft.{mark};
 ghost use Rattle.words.specs.Words.{Word, word};

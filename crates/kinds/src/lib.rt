@@ -1,4 +1,6 @@
 // The kind of a node, from its part of the mask. Each kind's pattern is a run of frozen positions with unfrozen ones after it.
+#![tactic(auto)]
+
 ghost use Rattle.std.specs.Prelude.{◌≡◌, true, cond, ◌||◌, ◌+◌, ◌<◌, ◌≤◌, T, length};
 ghost use Rattle.model.specs.Lists.{part};
 ghost use Rattle.model.specs.Encoding.{is_unfrozen, frozen_to_zero};
@@ -181,7 +183,7 @@ fn is_rate_one(mask: &[u8]) -> bool
 }
 
 // What is known of a node's message whatever the node is handed, a mask byte 2 being read as 1: it is ∞ everywhere, or 0 everywhere.
-#[derive(Drop)]
+#[derive(Clone, Copy)]
 pub struct Fixed {
     pub certain: bool,
     pub zero: bool,

@@ -1,4 +1,6 @@
 // A pass: SCAN walked down to the unfrozen leaves over the lent workspace, which leaves their incoming values in row 0.
+#![tactic(auto)]
+
 ghost use Rattle.std.specs.Prelude.{◌≡◌, true, false, cond, ◌+◌, ◌*◌, ◌≤◌, ◌<◌, length};
 ghost use Rattle.words.specs.Words.{Word, Words, Finite, Added, box_word, add_word, word, write};
 ghost use Rattle.halves.specs.Halves.{box_at, box_plus, plus_box, Sums, FiniteBoxSums};

@@ -1,4 +1,6 @@
 // The line program as a library: from the bytes of a line to the bytes of its answer.
+#![tactic(auto)]
+
 ghost use Rattle.std.specs.Prelude.{length};
 ghost use Rattle.model.specs.Plans.{Allowed};
 ghost use Rattle.model.specs.Refusals.{exponent};

@@ -1,4 +1,6 @@
 // The messages of the kinds, from a node's incoming list of words.
+#![tactic(auto)]
+
 ghost use Rattle.std.specs.Prelude.{◌≡◌, false, List, ◌+◌, ◌-◌, ◌%◌, ◌<◌, ◌≤◌, length};
 ghost use Rattle.model.specs.Soft.{Soft, certain, box};
 ghost use Rattle.model.specs.Kinds.{least_size, others, type_iv, shortcut, rate_0, rate_1, REP, SPC, type_I, type_III, type_II, type_IV};

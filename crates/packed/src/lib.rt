@@ -1,4 +1,6 @@
 // Eight bytes as one 64-bit word.
+#![tactic(auto)]
+
 ghost use Rattle.std.specs.Prelude.{◌≡◌, [], ◌∷◌, ◌+◌, ◌/◌, ◌%◌, ◌≤◌, ◌<◌, length, take, drop};
 ghost use Rattle.packed.specs.Bytes.{bytes_of};
 

@@ -1,4 +1,6 @@
 // A pass with its leaf bits, and an attempt: a pass with some leaves frozen to the bits of pass one.
+#![tactic(auto)]
+
 ghost use Rattle.std.specs.Prelude.{◌≡◌, false, cond, map, ◌+◌, ◌*◌, ◌-◌, ◌≤◌, T, eqb, ltb, length};
 ghost use Rattle.model.specs.Lists.{at_most, bit};
 ghost use Rattle.model.specs.Soft.{finite, negative};

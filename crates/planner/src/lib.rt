@@ -1,5 +1,7 @@
 // The planner.
 // The recursion goes down the tree with a node's stage t, its number p, and its part of the mask: 2p and 2p + 1 are its children.
+#![tactic(auto)]
+
 ghost use Rattle.std.specs.Prelude.{◌≡◌, ◌++◌, false, ℕ, ◌<◌, ◌≤◌, length, get_or, drop, replicate};
 ghost use Rattle.model.specs.Kinds.{kind_of, is_some};
 ghost use Rattle.model.specs.Refusals.{plan_number, plan_bytes, plan_counts, plan_cycles};

@@ -1,5 +1,7 @@
 // The check of a plan, and the cycles of one sweep.
 // A recursion goes down the tree with a node's stage t, its number p, and its positions of the mask: 2p and 2p + 1 are its children.
+#![tactic(auto)]
+
 ghost use Rattle.std.specs.Prelude.{◌≡◌, cond, ◌&&◌, ◌-◌, ◌%◌, ◌≤◌, ◌<◌, ◌^◌, T, eqb, length, get_or};
 ghost use Rattle.model.specs.Lists.{at_most, part};
 ghost use Rattle.model.specs.Refusals.{check_number, check_cycles};

@@ -1,4 +1,6 @@
 // Prints into a buffer that the caller lends: the line program's answer, and refusals, bytes and numbers, which `replay` and `drains` print too. Text that has no room is left out.
+#![tactic(auto)]
+
 ghost use Rattle.std.specs.Prelude.{◌≡◌, [], ◌∷◌, map, ◌+◌, ◌*◌, ◌<◌, ◌≤◌, nat_abs, length};
 ghost use Rattle.printer.specs.Text.{nat_text, size_text, soft_text, bit_text, bits_text, payload_text, spaced, ok_text, no_text, decoded};
 ghost use Rattle.printer.specs.Put.{Put, Printed};

@@ -1,4 +1,6 @@
 // Reads the program's line: the mask's digits, the sweeps, the LLRs.
+#![tactic(auto)]
+
 ghost use Rattle.std.specs.Prelude.{◌≡◌, true, map, ◌+◌, ◌≤◌, length, set};
 ghost use Rattle.model.specs.Lists.{over};
 ghost use Rattle.model.specs.Refusals.{is_llr, accepted};

@@ -1,4 +1,6 @@
 // Lists in the order sent: place i has the element of the place whose bits are those of i backwards.
+#![tactic(auto)]
+
 ghost use Rattle.std.specs.Prelude.{◌≡◌, ◌+◌, ◌-◌, ◌*◌, ◌^◌, ◌<◌, ◌≤◌, pos, length, get_or};
 ghost use Rattle.model.specs.Lists.{tabulate, over};
 ghost use Rattle.model.specs.Sent.{backwards, reordered};

@@ -1,4 +1,6 @@
 // Bytes in the order sent, reordered where they stand.
+#![tactic(auto)]
+
 ghost use Rattle.std.specs.Prelude.{◌≡◌, ◌+◌, ◌-◌, ◌*◌, ◌^◌, ◌≤◌, length, get_or};
 ghost use Rattle.model.specs.Lists.{tabulate, over};
 ghost use Rattle.model.specs.Sent.{reordered};

@@ -1,4 +1,6 @@
 // A capture replayed: from its bytes to the text of its drains' totals, or of the first refusal.
+#![tactic(auto)]
+
 ghost use Rattle.std.specs.Prelude.{◌≡◌, ◌+◌, ◌*◌, ◌≤◌, length, replicate};
 ghost use Rattle.model.specs.Captures.{max_capture, frame_size, frames_to, capture_number};
 ghost use Rattle.frames.specs.Frames.{Planned};

@@ -1,10 +1,11 @@
-// The library for a C host: numbers, and slices of bytes, words and samples. Each answer is one number.
+// The library for a C host: numbers, and slices of bytes, words and samples. Each answer is one number. `ruznavo_c` exports these calls.
+#![tactic(auto)]
+
 ghost use Rattle.std.specs.Prelude.{◌≡◌, length, ◌+◌, ◌*◌, ◌^◌};
-ghost use Rattle.model.specs.Refusals.{samples_number, samples_llrs, plan_bytes};
+ghost use Rattle.model.specs.Refusals.{samples_number, samples_llrs, encode_number, encode_word, plan_bytes};
 ghost use Rattle.model.specs.Masks.{weight_number, weight_mask_after};
 ghost use Rattle.model.specs.Distance.{distance_mask_after};
 ghost use Rattle.model.specs.Erasure.{erasure_number, erasure_mask_after};
-ghost use Rattle.model.specs.Sent.{encode_number_in, encode_word_in};
 ghost use Rattle.masks.specs.Answers.{answer_number, answer_found};
 ghost use Rattle.transform.specs.Calls.{transform_number, transform_bytes};
 ghost use Rattle.decode.specs.Calls.{lent, given};
@@ -12,6 +13,8 @@ ghost use Rattle.scan_flip.specs.Answers as flips;
 ghost use Rattle.scan_flip.specs.Calls.{flip_call};
 ghost use Rattle.ruznavo.specs.Answers.{CheckAnswer, PlanAnswer, host_counts, DecodeAnswer, DistanceAnswer, FlipAnswer, ReplayAnswer};
 
+use decode::decode;
+use encode::encode;
 use erasure::mask_by_erasure;
 use kinds::KINDS;
 use masks::{ForDistance, mask_by_weight, mask_for_distance};
@@ -20,17 +23,10 @@ use plans::check_plan;
 use replay::replay_totals;
 use samples::{Channel, samples_to_llrs};
 use scan_flip::{FlipDecoded, decode_flips};
-use sent::{decode_in, encode_in};
 use transform::transform;
 
 // Samples to LLRs, at the noise variance. The answer is the number.
-#[unsafe(no_mangle)]
-pub extern "C" fn ruznavo_samples(
-    samples: &[f32],
-    marks: &[u8],
-    variance: f32,
-    llrs: &mut [i16],
-) -> u64
+pub fn ruznavo_samples(samples: &[f32], marks: &[u8], variance: f32, llrs: &mut [i16]) -> u64
     ensures value { result ≡ samples_number samples.now marks.now variance (length llrs.old) }
     ensures llrs_after { llrs.new ≡ samples_llrs samples.now marks.now variance llrs.old }
 {
@@ -38,18 +34,16 @@ pub extern "C" fn ruznavo_samples(
     samples_to_llrs(samples, marks, channel, llrs) as u64
 }
 
-// The word of a payload, in the order: 1 is by bits backwards, 2 is document 01's. The answer is the number.
-#[unsafe(no_mangle)]
-pub extern "C" fn ruznavo_encode(order: usize, mask: &[u8], payload: &[u8], word: &mut [u8]) -> u64
-    ensures value { result ≡ encode_number_in order mask.now payload.now (length word.old) }
-    ensures word_after { word.new ≡ encode_word_in order mask.now payload.now word.old }
+// The word of a payload. The answer is the number.
+pub fn ruznavo_encode(mask: &[u8], payload: &[u8], word: &mut [u8]) -> u64
+    ensures value { result ≡ encode_number mask.now payload.now (length word.old) }
+    ensures word_after { word.new ≡ encode_word mask.now payload.now word.old }
 {
-    encode_in(order, mask, payload, word) as u64
+    encode(mask, payload, word) as u64
 }
 
 // The transform in place. The answer is the number.
-#[unsafe(no_mangle)]
-pub extern "C" fn ruznavo_transform(bits: &mut [u8]) -> u64
+pub fn ruznavo_transform(bits: &mut [u8]) -> u64
     ensures value { result ≡ transform_number bits.old }
     ensures bits_after { bits.new ≡ transform_bytes bits.old }
 {
@@ -57,8 +51,7 @@ pub extern "C" fn ruznavo_transform(bits: &mut [u8]) -> u64
 }
 
 // A check of a plan. The answer is number + 256 × cycles of one sweep.
-#[unsafe(no_mangle)]
-pub extern "C" fn ruznavo_check_plan(mask: &[u8], plan: &[u8]) -> u64
+pub fn ruznavo_check_plan(mask: &[u8], plan: &[u8]) -> u64
     ensures { CheckAnswer mask.now plan.now result }
 {
     let c = check_plan(mask, plan);
@@ -66,8 +59,7 @@ pub extern "C" fn ruznavo_check_plan(mask: &[u8], plan: &[u8]) -> u64
 }
 
 // The planner's plan, and the counts of its cut nodes by kind. The answer is number + 256 × cycles of one sweep.
-#[unsafe(no_mangle)]
-pub extern "C" fn ruznavo_plan(mask: &[u8], plan: &mut [u8], counts: &mut [u32; KINDS]) -> u64
+pub fn ruznavo_plan(mask: &[u8], plan: &mut [u8], counts: &mut [u32; KINDS]) -> u64
     ensures plan_answer { PlanAnswer mask.now (length plan.old) result }
     ensures plan_after { plan.new ≡ plan_bytes mask.now plan.old }
     ensures counts_after { counts.new ≡ host_counts mask.now (length plan.old) counts.old }
@@ -81,10 +73,8 @@ pub extern "C" fn ruznavo_plan(mask: &[u8], plan: &mut [u8], counts: &mut [u32; 
     256 * p.cycles as u64
 }
 
-// A decode in the order. The answer is number + 256 × cycles + 2 ^ 40 × frozen check + 2 ^ 41 × number of undecided bits.
-#[unsafe(no_mangle)]
-pub extern "C" fn ruznavo_decode(
-    order: usize,
+// A decode. The answer is number + 256 × cycles + 2 ^ 40 × frozen check + 2 ^ 41 × number of undecided bits.
+pub fn ruznavo_decode(
     mask: &[u8],
     plan: &[u8],
     sweeps: usize,
@@ -94,21 +84,20 @@ pub extern "C" fn ruznavo_decode(
     payload: &mut [u8],
     work: &mut [i32],
 ) -> u64
-    ensures { DecodeAnswer order
+    ensures { DecodeAnswer
         (given mask.now plan.now sweeps llrs.now
         (lent soft.old hard.old payload.old work.old))
         (lent soft.new hard.new payload.new work.new)
         result }
 {
-    let d = decode_in(order, mask, plan, sweeps, llrs, soft, hard, payload, work);
+    let d = decode(mask, plan, sweeps, llrs, soft, hard, payload, work);
     let check = 1099511627776 * d.check as u64;
     let undecided = 2199023255552 * d.undecided as u64;
     d.number as u64 + 256 * d.cycles as u64 + check + undecided
 }
 
 // The mask of N and K by row weight. The answer is the number.
-#[unsafe(no_mangle)]
-pub extern "C" fn ruznavo_mask_by_weight(n: usize, k: usize, mask: &mut [u8]) -> u64
+pub fn ruznavo_mask_by_weight(n: usize, k: usize, mask: &mut [u8]) -> u64
     ensures value { result ≡ weight_number n k (length mask.old) }
     ensures mask_after { mask.new ≡ weight_mask_after n k mask.old }
 {
@@ -130,8 +119,7 @@ fn distance_answer(answer: ForDistance) -> u64
 }
 
 // The mask of N and K by row weight, where its every non-zero word has d ones or more. The answer is number + 256 × (1 where a mask was written).
-#[unsafe(no_mangle)]
-pub extern "C" fn ruznavo_mask_for_distance(n: usize, k: usize, d: usize, mask: &mut [u8]) -> u64
+pub fn ruznavo_mask_for_distance(n: usize, k: usize, d: usize, mask: &mut [u8]) -> u64
     ensures distance_answer { DistanceAnswer n k d (length mask.old) result }
     ensures mask_after { mask.new ≡ distance_mask_after n k d mask.old }
 {
@@ -140,7 +128,7 @@ pub extern "C" fn ruznavo_mask_for_distance(n: usize, k: usize, d: usize, mask: 
 
 // The number of a case + 256 × (its t or the number of attempts made) + 2 ^ 40 × (1 for a match).
 fn flip_answer(answer: FlipDecoded) -> u64
-    ensures { result ≡ flips.answerNumber answer + 256 * flips.answerAttempts answer + 2 ^ 40 * flips.answerMatched answer }
+    ensures { result ≡ flips.answer_number answer + 256 * flips.answer_attempts answer + 2 ^ 40 * flips.answer_matched answer }
 {
     match answer {
         FlipDecoded::Matched(t) => 256 * t as u64 + 1099511627776,
@@ -150,8 +138,7 @@ fn flip_answer(answer: FlipDecoded) -> u64
 }
 
 // A decode with up to `attempts` flip attempts. The answer is number + 256 × (t of the match, or the number of attempts made) + 2 ^ 40 × (1 for a match).
-#[unsafe(no_mangle)]
-pub extern "C" fn ruznavo_flip(
+pub fn ruznavo_flip(
     mask: &[u8],
     sweeps: usize,
     attempts: usize,
@@ -166,8 +153,7 @@ pub extern "C" fn ruznavo_flip(
 }
 
 // The mask of N and K from the measured erasure rate z. The answer is the number.
-#[unsafe(no_mangle)]
-pub extern "C" fn ruznavo_mask_by_erasure(n: usize, k: usize, z: f64, mask: &mut [u8]) -> u64
+pub fn ruznavo_mask_by_erasure(n: usize, k: usize, z: f64, mask: &mut [u8]) -> u64
     ensures value { result ≡ erasure_number n k z (length mask.old) }
     ensures mask_after { mask.new ≡ erasure_mask_after n k z mask.old }
 {
@@ -175,8 +161,7 @@ pub extern "C" fn ruznavo_mask_by_erasure(n: usize, k: usize, z: f64, mask: &mut
 }
 
 // A capture replayed: the text of its totals goes to the front of out. The answer is the number + 256 × the length of the text.
-#[unsafe(no_mangle)]
-pub extern "C" fn ruznavo_replay(capture: &[u8], out: &mut [u8]) -> u64
+pub fn ruznavo_replay(capture: &[u8], out: &mut [u8]) -> u64
     ensures { ReplayAnswer capture.now out.old out.new result }
 {
     let r = replay_totals(capture, out);

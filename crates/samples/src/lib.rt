@@ -1,4 +1,6 @@
 // The front end: samples, position marks and the noise variance to LLRs.
+#![tactic(auto)]
+
 ghost use Rattle.std.specs.Prelude.{◌≡◌, cond, ◌+◌, ◌<◌, ◌≤◌, length};
 ghost use Rattle.model.specs.Lists.{over};
 ghost use Rattle.model.specs.Soft.{signed};
@@ -7,7 +9,7 @@ ghost use Rattle.model.specs.Refusals.{samples_number, samples_llrs};
 ghost use Rattle.samples.specs.Cases.{position_named, above_zero, under_top, size_of, whole_of, sample_of, known_llr, selected, sent_llrs, marked_llrs, all_finite, sent_finite};
 
 // A received position.
-#[derive(Drop)]
+#[derive(Clone, Copy)]
 pub enum Position {
     Sent(f32),
     Punctured,
@@ -15,7 +17,7 @@ pub enum Position {
 }
 
 // A channel setting: the noise variance.
-#[derive(Drop)]
+#[derive(Clone, Copy)]
 pub struct Channel {
     pub variance: f32,
 }

@@ -1,5 +1,7 @@
 // The planned walk over one lent workspace. It reads every mask byte 2 as 1, so no message is -∞. Where the word of the frozen values has a 1, LLRs are
 // negated before it and soft values after it.
+#![tactic(auto)]
+
 ghost use Rattle.std.specs.Prelude.{◌≡◌, ◌+◌, ◌*◌, ◌^◌, ◌≤◌, ◌<◌, T, length, pos, neg_ℤ, map, true, false, cond, not, ◌||◌};
 ghost use Rattle.model.specs.Soft.{finite, mark};
 ghost use Rattle.model.specs.Lists.{part, at_most, on_ones};

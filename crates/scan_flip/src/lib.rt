@@ -1,4 +1,6 @@
 // Flip attempts: a decode whose payload ends with a CRC, and further decodes with one leaf flipped where the CRC does not match.
+#![tactic(auto)]
+
 ghost use Rattle.std.specs.Prelude.{◌≡◌, cond, [], ◌∷◌, ◌≤◌, length};
 ghost use Rattle.model.specs.Refusals.{test, refusal, row_11, row_12};
 ghost use Rattle.model.specs.Attempts.{row_18, row_19};

@@ -1,4 +1,6 @@
 // The value at a place in the falling order of values from 0 to 1, and the positions of equal ones.
+#![tactic(auto)]
+
 ghost use Rattle.std.specs.Prelude.{◌≡◌, true, ◌<◌, ◌≤◌, length, take};
 ghost use Rattle.std.specs.Float.Ieee.{eq};
 ghost use Rattle.model.specs.Erasure.{Probability};

@@ -1,5 +1,7 @@
 // Encoder and decoder for callers who name the order of a word's places: 1 is that of the trial series, in which they are sent by their bits
 // backwards, 2 is document 01's. What is called here is in order 2.
+#![tactic(auto)]
+
 ghost use Rattle.std.specs.Prelude.{◌≡◌, not, ◌&&◌, [], ◌∷◌, ◌^◌, ◌≤◌, min, eqb, leb, pos, length};
 ghost use Rattle.model.specs.Lists.{over};
 ghost use Rattle.model.specs.Refusals.{exponent, refusal, row_1};

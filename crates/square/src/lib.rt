@@ -1,4 +1,6 @@
 // Square frames: N lines of N LLRs, decoded by rows and by columns in turn.
+#![tactic(auto)]
+
 ghost use Rattle.std.specs.Prelude.{◌≡◌, false, cond, ◌*◌, ◌%◌, ◌≤◌, ◌<◌, T, eqb, pos, length, replicate};
 ghost use Rattle.model.specs.Lists.{over, at_most};
 ghost use Rattle.inputs.specs.Tests.{MaskPassed};

@@ -1,4 +1,6 @@
 // The lines of a square frame: their decodes, one after the other.
+#![tactic(auto)]
+
 ghost use Rattle.std.specs.Prelude.{◌≡◌, ◌≤◌, ◌<◌, pos, length, map};
 ghost use Rattle.model.specs.Soft.{word_of};
 ghost use Rattle.model.specs.Square.{with_line, line_soft, half_iteration};

@@ -1,4 +1,6 @@
 // The transform of N bits in place, which encoder and decoder share.
+#![tactic(auto)]
+
 ghost use Rattle.std.specs.Prelude.{◌≡◌, ◌*◌, ◌^◌, ◌%◌, ◌≤◌, length};
 ghost use Rattle.model.specs.Encoding.{transform};
 ghost use Rattle.blocks.specs.Steps.{low_bits, AllBits, add_half, each_block, add_halves};

@@ -1,4 +1,6 @@
 // 32-bit words that hold soft values: their size, sum, difference and box, and the loops that load, fill and copy them.
+#![tactic(auto)]
+
 ghost use Rattle.std.specs.Prelude.{◌≡◌, cond, ◌+◌, ◌<◌, ◌≤◌, pos, nat_abs, neg_ℤ, ◌-ℤ◌, length};
 ghost use Rattle.std.specs.Int.Signed.{lt_z};
 ghost use Rattle.words.specs.Words.{box_word, add_word, flip, Word, Added, word, write, four, Finite};
