@@ -1,17 +1,15 @@
 -- The reordering by bits backwards: it is its own inverse, and what holds of lists place by place holds of the reordered ones. Assumes nothing.
 use mathlib.Core.Path.{◌≡◌, refl, sym, ◌∙◌, ap, ap₂, subst}
 use mathlib.Core.Bool.{Bool, true, false, cond, ◌&&◌}
-use mathlib.Core.List.{List, [], ◌∷◌, map}
+use mathlib.Core.List.{List, map}
 use Prim.Native.Nat.{ℕ, zero, suc, ◌+◌, ◌*◌, ◌/◌, ◌%◌, ◌^◌, ◌<◌, ◌≤◌}
 use native.Mathlib.Nat.{mul-le-mul_right}
 use native.Mathlib.Omega.{arith}
 use borrow.Author.Tests.{leb-false}
 use lib.Dec.{eqb, leb}
-use lib.IntN.{ℤ, pos}
 use lib.ListN.{length, get_or, get_or-map, length-map}
-use lib.Pow.{pow_pos}
 use lib.Seq.{ext_get_or}
-use Rattle.model.specs.Lists.{tabulate, on_ones}
+use Rattle.model.specs.Lists.{on_ones}
 use Rattle.model.specs.Sent.{backwards, reordered, in_order}
 use Rattle.model.proofs.Lists.{double, length_tabulate, get_d_tabulate, length-on_ones, on_ones-at}
 

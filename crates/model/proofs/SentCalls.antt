@@ -1,28 +1,26 @@
 -- Encoder and decoder with the order named: an accepted call is accepted with the LLRs in the word's order, and what is shown of that call's answer holds of the
 -- answer as sent. Assumes nothing.
 use mathlib.Core.Path.{◌≡◌, refl, sym, ◌∙◌, ap, ap₂, subst}
-use mathlib.Core.Bool.{Bool, true, false, cond, ◌&&◌}
-use mathlib.Core.List.{List, [], ◌∷◌, map}
+use mathlib.Core.Bool.{Bool, true, false, cond}
+use mathlib.Core.List.{List, [], ◌∷◌}
 use Prim.Native.Nat.{ℕ, zero, suc, ◌^◌, ◌<◌, suc-le-suc}
-use native.Mathlib.Nat.{le_of_suc-le-suc}
 use native.Mathlib.Decide.{dec_lt}
 use native.Mathlib.Omega.{arith}
 use lib.Dec.{T, eqb}
 use lib.IntN.{ℤ, pos, neg_ℤ}
 use lib.ListN.{length, get_or, get_or-eq_default}
-use borrow.Author.Tests.{eqb-true}
 use Rattle.model.specs.Lists.{at_most, on_ones}
-use Rattle.model.specs.Soft.{Soft, finite, Finite, soft_zero, ◌at◌, negate, negative}
-use Rattle.model.specs.Encoding.{known_bits, known_word, frozen_to_zero, unfrozen, transform, place, encode}
-use Rattle.model.specs.Scan.{Decoded, scan, hard_word, decided, decode_scan, flip_bit, flip_decoded, FlippedBy, SignsOf}
+use Rattle.model.specs.Soft.{Soft, Finite, soft_zero, ◌at◌, negate, negative}
+use Rattle.model.specs.Encoding.{known_bits, known_word, frozen_to_zero, unfrozen, place, encode}
+use Rattle.model.specs.Scan.{Decoded, flip_bit, flip_decoded, FlippedBy, SignsOf}
 use Rattle.model.specs.Refusals.{exponent, is_llr, llrs_in_range, DecodeCall, with_llrs, with_zeros, decode_number, decode_answer, decode_cycles}
 use Rattle.model.specs.Sent.{reordered, is_order, in_order, order_number, sent_word, in_word_order, as_sent, decode_number_in, decode_answer_in, decode_cycles_in}
-use Rattle.model.proofs.Lists.{T_true, true-T, and_l, and_r, and_T, length-on_ones}
+use Rattle.model.proofs.Lists.{and_l, and_r, and_T}
 use Rattle.model.proofs.FrozenPositions.{to_zero_length}
 use Rattle.model.proofs.Transform.{length-transform}
 use Rattle.model.proofs.Calls.{length-softs, length-hards, accepted-size, accepted-values, flipped-number, plain-answer, other-flipped}
 use Rattle.model.proofs.Signs.{signs_hard, signs_payload, signs_check, signs_decided}
-use Rattle.model.proofs.Reordering.{length-reordered, reordered-at, reordered-twice, length-in_order, in_order-twice, in_order-ones, carried, carried_in}
+use Rattle.model.proofs.Reordering.{length-reordered, reordered-twice, length-in_order, in_order-twice, in_order-ones, carried, carried_in}
 
 -- ---- the test of the LLRs
 range-each : (llrs : List ℤ) → T (llrs_in_range llrs) → (k : ℕ) → T (is_llr (get_or llrs k (pos 0)))

@@ -1,9 +1,9 @@
 -- Small square frames, by computing the definitions. The mask of N = 2 whose first position is frozen has the words 00 and 11: a line's soft values are its
 -- two inputs, exchanged. Assumes nothing.
 use mathlib.Core.Path.{◌≡◌, refl}
-use mathlib.Core.List.{List, [], ◌∷◌, map}
+use mathlib.Core.List.{List, [], ◌∷◌}
 use Prim.Native.Nat.{ℕ}
-use lib.IntN.{ℤ, pos, negsuc}
+use lib.IntN.{pos, negsuc}
 use lib.ListN.{replicate}
 use Rattle.model.specs.Lists.{tabulate, over, at_most}
 use Rattle.model.specs.Soft.{box, box_ℤ, plus}

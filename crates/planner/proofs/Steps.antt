@@ -1,14 +1,14 @@
 -- What the planner's recursion does at a node, in the terms of the code. Assumes nothing.
 use Prim.Native.Nat.{ℕ, zero, suc, ◌+◌, ◌*◌, ◌-◌, ◌/◌, ◌^◌, ◌<◌, ◌≤◌}
 use native.Mathlib.Omega.{arith}
-use mathlib.Core.Path.{◌≡◌, refl, sym, ap, ◌∙◌}
-use mathlib.Core.Bool.{Bool, true, false, not}
+use mathlib.Core.Path.{◌≡◌, sym, ap, ◌∙◌}
+use mathlib.Core.Bool.{Bool, true, false}
 use mathlib.Core.List.{List}
 use borrow.Author.Tests.{lt-ltb, le-ltb}
 use lib.ListN.{length, take, drop, set}
 use lib.Pow.{pow_pos}
 use Rattle.model.specs.Kinds.{order, kind_of, is_some}
-use Rattle.model.proofs.Lists.{take_left, true-T, absurd_bool}
+use Rattle.model.proofs.Lists.{take_left, absurd_bool}
 use Rattle.model.proofs.Planner.{leaf-some}
 use Rattle.plans.specs.Nodes.{Node}
 use Rattle.kinds.specs.Runs.{row_of}
@@ -48,30 +48,21 @@ module _ {i : ℕ} (p : ℕ) (mask plan cs : List ℕ) (r : i ≡ row_of (kind_o
       let e : is_some (kind_of (length mask) mask) ≡ false = sym (is_row (kind_of (length mask) mask)) ∙ le-ltb (row_of (kind_of (length mask) mask)) (length order) (omega (arith, r)) in
       (sym e, (rw e, rw e))
 
--- what the code reads off it
-no_cut_lem : (b : Bool) → not b ≡ true → b ≡ false
-no_cut_lem true e = absurd (true-T false e)
-no_cut_lem false e = refl
-
-is_cut_lem : (b : Bool) → not b ≡ false → b ≡ true
-is_cut_lem true e = refl
-is_cut_lem false e = absurd (true-T false (sym e))
-
 -- what that and, where the node is of no kind, the nodes below it leave
 module _ (p : ℕ) (mask plan cs : List ℕ) {cut : Bool} {x a : List ℕ} (tested : Tested p mask plan cs cut x a) where
-  pub of_none : not cut ≡ true → is_some (kind_of (length mask) mask) ≡ false
-  of_none e = sym tested.0 ∙ no_cut_lem cut e
+  pub of_none : cut ≡ false → is_some (kind_of (length mask) mask) ≡ false
+  of_none e = sym tested.0 ∙ e
 
-  pub unchanged : not cut ≡ true → (x ≡ plan) × (a ≡ cs)
+  pub unchanged : cut ≡ false → (x ≡ plan) × (a ≡ cs)
   unchanged e = let none = of_none e in (tested.1.0 ∙ rw none, tested.1.1 ∙ rw none)
 
-  pub done-cut : {t l : ℕ} → Node t p (length mask) l → not cut ≡ false → Both t p mask plan cs x a
+  pub done-cut : {t l : ℕ} → Node t p (length mask) l → cut ≡ true → Both t p mask plan cs x a
   done-cut {t} h e =
-      let some = sym tested.0 ∙ is_cut_lem cut e in
+      let some = sym tested.0 ∙ e in
       let both = some-both p mask plan cs t (ap (λ (m : ℕ). is_some (kind_of m mask)) (sym h.size) ∙ some) in
       (tested.1.0 ∙ rw some both.0, tested.1.1 ∙ rw some (ap (λ (m : ℕ). noted (row_of (kind_of m mask)) cs) h.size ∙ both.1))
 
-  pub done_below : (t : ℕ) → not cut ≡ true → {y b : List ℕ} → Both t p mask x a y b → Both t p mask plan cs y b
+  pub done_below : (t : ℕ) → cut ≡ false → {y b : List ℕ} → Both t p mask x a y b → Both t p mask plan cs y b
   done_below t e B = let same = unchanged e in (B.0 ∙ ap (written t p mask) same.0, B.1 ∙ ap (counted t mask) same.1)
 
 -- ---- a node of no kind

@@ -60,14 +60,14 @@ mark-no z h e = h (ap (of_z w32) e)
 
 -- what is read back from the bits of a number that fits: of an element's `.given` and of a call's `.ok`
 pub back : {z : ℤ} → mag z < 2 ^ 31 → to_z w32 (of_z w32 z) ≡ z
-back h = to_z-of_z (record { sfits = h })
+back h = to_z-of_z {w = w32} (record { sfits = h })
 
 -- what is read back of the result of a call that computes f
 pub back_of : {z p q p' q' : ℤ} (f : ℤ → ℤ → ℤ) → mag z < 2 ^ 31 → z ≡ f p q → p ≡ p' → q ≡ q' → to_z w32 (of_z w32 z) ≡ f p' q'
 back_of f ok e p q = back ok ∙ e ∙ ap₂ f p q
 
 pub back16 : {z : ℤ} → mag z < 2 ^ 15 → to_z w16 (of_z w16 z) ≡ z
-back16 h = to_z-of_z (record { sfits = h })
+back16 h = to_z-of_z {w = w16} (record { sfits = h })
 
 -- the cast of an i16 to an i32
 pub wide16 : (z : ℤ) → mag z < 2 ^ 15 → SFits w32 (to_z w16 (of_z w16 z))

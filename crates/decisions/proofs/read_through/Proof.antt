@@ -11,13 +11,13 @@ use borrow.Author.Rules.{rules}
 use Rattle.decisions.proofs.read_through.Statement.{statement}
 use Rattle.decisions.proofs.read_through.Tie as tie
 
-abbrev start : tie.After-copy-bytes → tie.Start
+abbrev start : tie.After-copy_bytes → tie.Start
 start c = c.before.before.before.before.before.before
 
-copied : (c : tie.After-copy-bytes) → let a = (start c).args in take a.size c.copy-bytes.new.1.0 ≡ take a.size a.hard.now
-copied c = let a = (start c).args in copied-front a.hard.now a.u.now c.copy-bytes.new.1.0 a.size (start c).requires.0.0.bits c.copy-bytes.ensures
+copied : (c : tie.After-copy_bytes) → let a = (start c).args in take a.size c.copy_bytes.new.to ≡ take a.size a.hard.now
+copied c = let a = (start c).args in copied-front a.hard.now a.u.now c.copy_bytes.new.to a.size (start c).requires.0.0.bits c.copy_bytes.ensures
 
-read-word-requires : tie.Need-read-word-requires
+read-word-requires : tie.Need-read_word-requires
 read-word-requires c κs =
     let copy = c.before.before.before.before in
     let can = (start copy).requires.0.0 in (
@@ -26,7 +26,7 @@ read-word-requires c κs =
         few = can.few;
         positions = can.positions;
         bytes = can.bytes;
-        bits = omega (arith, (start copy).requires.0.1, copy.copy-bytes.auto.1.0);
+        bits = omega (arith, (start copy).requires.0.1, copy.copy_bytes.auto.to);
         payload-room = can.payload-room;
       },
       subst AllBits (sym (copied copy)) (start copy).requires.1,
@@ -37,7 +37,7 @@ returns c =
     let read = c.before.before.before.before in
     let copy = read.before.before.before.before.before in
     let a = (start copy).args in
-    subst (λ (w : List ℕ). WordRead a.mask.now a.stage w a.payload.now read.read_word.new.1.0 read.read_word.result) (copied copy) read.read_word.ensures.0
+    subst (λ (w : List ℕ). WordRead a.mask.now a.stage w a.payload.now read.read_word.new.payload read.read_word.result) (copied copy) read.read_word.ensures.0
 
-pub read-through-spec : {M : Type 1} → statement M
-read-through-spec = tie.close (tie.spec (λ c κs. search rules) read-word-requires (λ c. search rules) (λ c. search rules) returns)
+pub read_through_spec : {M : Type 1} → statement M
+read_through_spec = tie.close (tie.spec (λ c κs. search rules) read-word-requires (λ c. search rules) (λ c. search rules) returns)

@@ -10,7 +10,7 @@ use Rattle.flips.proofs.Places.{eight-stored}
 use Rattle.flips.proofs.known_eight.Statement.{statement}
 use Rattle.flips.proofs.known_eight.Tie as tie
 
-abbrev start : tie.After-known-bit8 → tie.Start
+abbrev start : tie.After-known_bit-h → tie.Start
 start c = c.before.before.before.before.before.before.before.before.before.before.before.before.before.before.before.before.before.before
 
 returns : tie.Need-returns
@@ -24,12 +24,12 @@ returns c =
     let two = three.before.before in
     let one = two.before.before in
     eight-stored a.bits.now a.k (λ j. bit (is_known_one (get_or a.mask.now (a.k + j) 0))) _ _ _ _ _ _ _ _
-    (one.known-bit.ensures ∙ ap (λ (i : ℕ). bit (is_known_one (get_or a.mask.now i 0))) (let e : a.k ≡ a.k + 0 = omega arith in e))
-    two.known-bit2.ensures three.known-bit3.ensures four.known-bit4.ensures five.known-bit5.ensures six.known-bit6.ensures seven.known-bit7.ensures
-    c.known-bit8.ensures
+    (one.known_bit-a.ensures ∙ ap (λ (i : ℕ). bit (is_known_one (get_or a.mask.now i 0))) (let e : a.k ≡ a.k + 0 = omega arith in e))
+    two.known_bit-b.ensures three.known_bit-c.ensures four.known_bit-d.ensures five.known_bit-e.ensures six.known_bit-f.ensures seven.known_bit-g.ensures
+    c.known_bit-h.ensures
 
-pub known-eight-spec : {M : Type 1} → statement M
-known-eight-spec =
+pub known_eight_spec : {M : Type 1} → statement M
+known_eight_spec =
     tie.close
     (tie.spec
     (λ c. search rules) (λ c κs. search rules)  -- mask[k]

@@ -18,10 +18,10 @@ use Rattle.words.proofs.Loops.{Stored, none-stored, one-stored, all-stored}
 use Rattle.flips.proofs.load_flipped.Statement.{statement}
 use Rattle.flips.proofs.load_flipped.Tie as tie
 
-abbrev invariant-loop : tie.invariant-loop
+abbrev invariant-loop : tie.invariant-loop-k
 invariant-loop w₀ m llrs known k₀ w k = Stored w₀ m (length llrs) (word (on_ones neg_ℤ known llrs)) k w
 
-abbrev decreases-loop : tie.decreases-loop
+abbrev decreases-loop : tie.decreases-loop-k
 decreases-loop w₀ m llrs known k₀ w k = length llrs - k
 
 -- every LLR is a word
@@ -30,26 +30,26 @@ llr-word (pos n) h = omega arith
 llr-word (negsuc n) h = omega arith
 
 -- the word that was read
-abbrev llr : tie.After-widened invariant-loop decreases-loop → ℤ
-llr c = let at-loop = c.before.before.before in word at-loop.before.before.args.llrs.now at-loop.loop.k
+abbrev llr : tie.After-widened-v invariant-loop decreases-loop → ℤ
+llr c = let at-loop = c.before.before.before in word at-loop.before.before.args.llrs.now at-loop.loop-k.k
 
-read : (c : tie.After-widened invariant-loop decreases-loop) → to_z w32 (of_z w32 c.widened.result) ≡ llr c
-read c = back c.widened.type-inv ∙ c.widened.ensures ∙ back16 {z = llr c} c.before.widened-arg.given
+read : (c : tie.After-widened-v invariant-loop decreases-loop) → to_z w32 (of_z w32 c.widened-v.result) ≡ llr c
+read c = back c.widened-v.type_inv ∙ c.widened-v.ensures ∙ back16 {z = llr c} c.before.widened-arg-1.given
 
-with-sign-requires : tie.Need-with-sign-requires invariant-loop decreases-loop
-with-sign-requires c κs = rw (read c.before) (llr-word (llr c.before) c.before.before.widened-arg.given)
+with-sign-requires : tie.Need-with_sign-requires invariant-loop decreases-loop
+with-sign-requires c κs = rw (read c.before) (llr-word (llr c.before) c.before.before.widened-arg-1.given)
 
-loop-again : tie.Need-loop-preserved invariant-loop decreases-loop
+loop-again : tie.Need-loop-k-preserved invariant-loop decreases-loop
 loop-again c =
     let turn = c.before.before.before.before in
     let a = turn.before.before.before.args in
-    let k = turn.before.loop.k in
-    one-stored turn.before.loop.invariant turn.loop-test.true
-    (back c.with-sign.type-inv ∙ c.with-sign.ensures ∙ ap (λ (z : ℤ). cond (eqb (get_or a.known.now k 0) 1) (neg_ℤ z) z) (read c.before.before)
+    let k = turn.before.loop-k.k in
+    one-stored turn.before.loop-k.invariant turn.loop-k-test.true
+    (back c.with_sign.type_inv ∙ c.with_sign.ensures ∙ ap (λ (z : ℤ). cond (eqb (get_or a.known.now k 0) 1) (neg_ℤ z) z) (read c.before.before)
     ∙ sym (on_ones-at neg_ℤ (pos 0) a.known.now a.llrs.now k (λ past. refl)))
 
-pub load-flipped-spec : {M : Type 1} → statement M
-load-flipped-spec =
+pub load_flipped_spec : {M : Type 1} → statement M
+load_flipped_spec =
     tie.close
     (tie.spec
     invariant-loop
@@ -62,5 +62,5 @@ load-flipped-spec =
     (λ c. search rules)  -- k + 1
     (λ c. search rules)  -- less is left
     loop-again
-    (λ c. c.before.loop.invariant.long)
-    (λ c. all-stored c.before.loop.invariant c.loop-test.false))
+    (λ c. c.before.loop-k.invariant.long)
+    (λ c. all-stored c.before.loop-k.invariant c.loop-k-test.false))

@@ -9,20 +9,20 @@ use Rattle.transform.proofs.StrideLoop.{Strided, Halved, halved, sixteenths, str
 use Rattle.transform.proofs.long_strides.Statement.{statement}
 use Rattle.transform.proofs.long_strides.Tie as tie
 
-abbrev invariant-loop : tie.invariant-loop
+abbrev invariant-loop : tie.invariant-loop-t
 invariant-loop bits₀ n count₀ h₀ t₀ bits count h t = (u : List ℕ) → Strided n 4 16 count₀ u bits₀ → Strided n t h count u bits
 
-abbrev decreases-loop : tie.decreases-loop
+abbrev decreases-loop : tie.decreases-loop-t
 decreases-loop bits₀ n count₀ h₀ t₀ bits count h t = n - t
 
-held : (c : tie.At-loop invariant-loop decreases-loop) → let a = c.before.before.before.before.before.before.args in Strided a.n c.loop.t c.loop.h c.loop.count a.bits.now c.loop.bits
+held : (c : tie.At-loop-t invariant-loop decreases-loop) → let a = c.before.before.before.before.before.before.args in Strided a.n c.loop-t.t c.loop-t.h c.loop-t.count a.bits.now c.loop-t.bits
 held c =
     let call = c.before.before.before.sixteens in
     let s = c.before.before.before.before.before.before in
-    c.loop.invariant s.args.bits.now (strided_sixteens s.args.n s.args.bits.now call.new.0 s.requires.0 s.requires.1 call.auto.0 call.ensures)
+    c.loop-t.invariant s.args.bits.now (strided_sixteens s.args.n s.args.bits.now call.new.bits s.requires.0 s.requires.1 call.auto.bits call.ensures)
 
-next : (c : tie.In-loop invariant-loop decreases-loop) → Halved c.before.before.before.before.before.before.before.args.n c.before.loop.t c.before.loop.h (c.before.loop.count / 2)
-next c = let now = held c.before in halved _ _ _ _ c.loop-test.true now.stride now.many
+next : (c : tie.In-loop-t invariant-loop decreases-loop) → Halved c.before.before.before.before.before.before.before.args.n c.before.loop-t.t c.before.loop-t.h (c.before.loop-t.count / 2)
+next c = let now = held c.before in halved _ _ _ _ c.loop-t-test.true now.stride now.many
 
 stride-requires : tie.Need-stride-requires invariant-loop decreases-loop
 stride-requires c κs =
@@ -30,23 +30,23 @@ stride-requires c κs =
     let now = held c.before.before in
     (now.size ∙ g.whole, omega (arith, g.room, now.size), now.words)
 
-mul-h : tie.Need-overflow-mul-h invariant-loop decreases-loop
+mul-h : tie.Need-overflow_mul-h invariant-loop decreases-loop
 mul-h c =
     let g = next c.before.before.before.before in
     let now = held c.before.before.before.before.before in
     omega (arith, g.room, now.size)
 
-loop-again : tie.Need-loop-preserved invariant-loop decreases-loop
+loop-again : tie.Need-loop-t-preserved invariant-loop decreases-loop
 loop-again c =
     let in-loop = c.before.before.before.before in
     let l = in-loop.before in
     let call = c.before.before.stride in
     λ u p.
-    let v = l.loop.invariant u p in
-    strided-more l.before.before.before.before.before.before.args.n l.loop.t l.loop.h l.loop.count in-loop.loop-test.true v.stride v.many u l.loop.bits call.new.0 v call.auto.0 call.ensures
+    let v = l.loop-t.invariant u p in
+    strided-more l.before.before.before.before.before.before.args.n l.loop-t.t l.loop-t.h l.loop-t.count in-loop.loop-t-test.true v.stride v.many u l.loop-t.bits call.new.bits v call.auto.bits call.ensures
 
-pub long-strides-spec : {M : Type 1} → statement M
-long-strides-spec =
+pub long_strides_spec : {M : Type 1} → statement M
+long_strides_spec =
     tie.close
     (tie.spec
     invariant-loop
@@ -59,4 +59,4 @@ long-strides-spec =
     (λ c. search rules)  -- less is left
     loop-again
     (λ c. (held c.before).size ∙ sym c.before.before.before.before.before.before.before.requires.1)
-    (λ c. strided-all _ _ _ _ _ _ c.loop-test.false (held c.before)))
+    (λ c. strided-all _ _ _ _ _ _ c.loop-t-test.false (held c.before)))

@@ -16,11 +16,11 @@ sum_is c =
     ap₂ (λ (x y : ℤ). x +ℤ y) (to_z-of_z c.ranges.a) (to_z-of_z c.ranges.b)
     ∙ sym (add_word-fin a.a a.b (not-mark a.a c.requires.0) (not-mark a.b c.requires.1))
 
-add-result : tie.Need-overflow-add-result
+add-result : tie.Need-overflow_add-result
 add-result c = subst (SFits w32) (sym (sum_is c)) (fits_word _ c.requires.2)
 
 returns : tie.Need-returns
 returns c = to_z-of_z (add-result c) ∙ sum_is c
 
-pub add-finite-spec : {M : Type 1} → statement M
-add-finite-spec = tie.close (tie.spec add-result returns)
+pub add_finite_spec : {M : Type 1} → statement M
+add_finite_spec = tie.close (tie.spec add-result returns)

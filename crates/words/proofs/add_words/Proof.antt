@@ -15,15 +15,15 @@ use borrow.Author.Rules.{rules}
 use Rattle.words.proofs.add_words.Statement.{statement}
 use Rattle.words.proofs.add_words.Tie as tie
 
-sum_is : (c : tie.After-pick-word) → let a = c.before.args in to_z w32 (of_z w32 a.b) +ℤ to_z w32 (of_z w32 c.pick_word.result) ≡ add_word a.a a.b
+sum_is : (c : tie.After-pick_word) → let a = c.before.args in to_z w32 (of_z w32 a.b) +ℤ to_z w32 (of_z w32 c.pick_word.result) ≡ add_word a.a a.b
 sum_is c =
     let s = c.before in
     let a = s.args in
     ap₂ (λ (x y : ℤ). x +ℤ y) (to_z-of_z s.ranges.b)
-    (back c.pick_word.type-inv ∙ c.pick_word.ensures ∙ ap (λ (z : ℤ). cond (eqb (of_z w32 a.b) mark) (pos 0) z) (to_z-of_z s.ranges.a))
+    (back c.pick_word.type_inv ∙ c.pick_word.ensures ∙ ap (λ (z : ℤ). cond (eqb (of_z w32 a.b) mark) (pos 0) z) (to_z-of_z s.ranges.a))
     ∙ add_by (eqb (of_z w32 a.b) mark) a.a a.b (λ e. mark_yes a.b s.ranges.b (eqb-true _ _ e)) (λ e. mark-no a.b (eqb-false _ _ e)) s.requires.0 s.requires.2
 
-add-result : tie.Need-overflow-add-result
+add-result : tie.Need-overflow_add-result
 add-result c =
     subst (SFits w32) (sym (sum_is c)) (fits_word _ c.before.requires.1)
 
@@ -31,5 +31,5 @@ returns : tie.Need-returns
 returns c =
     to_z-of_z (add-result c) ∙ sum_is c
 
-pub add-words-spec : {M : Type 1} → statement M
-add-words-spec = tie.close (tie.spec (λ c κs. search rules) add-result returns)
+pub add_words_spec : {M : Type 1} → statement M
+add_words_spec = tie.close (tie.spec (λ c κs. search rules) add-result returns)

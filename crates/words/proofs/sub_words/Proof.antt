@@ -11,11 +11,11 @@ use Rattle.words.proofs.sub_words.Tie as tie
 difference-is : (c : tie.Start) → let a = c.args in to_z w32 (of_z w32 a.a) -ℤ to_z w32 (of_z w32 a.b) ≡ a.a -ℤ a.b
 difference-is c = ap₂ (λ (x y : ℤ). x -ℤ y) (to_z-of_z c.ranges.a) (to_z-of_z c.ranges.b)
 
-sub-result : tie.Need-overflow-sub-result
+sub-result : tie.Need-overflow_sub-result
 sub-result c = subst (SFits w32) (sym (difference-is c)) (fits_word _ c.requires)
 
 returns : tie.Need-returns
 returns c = to_z-of_z (sub-result c) ∙ difference-is c
 
-pub sub-words-spec : {M : Type 1} → statement M
-sub-words-spec = tie.close (tie.spec sub-result returns)
+pub sub_words_spec : {M : Type 1} → statement M
+sub_words_spec = tie.close (tie.spec sub-result returns)

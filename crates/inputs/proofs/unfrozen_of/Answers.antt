@@ -1,0 +1,27 @@
+use mathlib.Core.Path.{sym, ◌∙◌, ap}
+use Prim.Native.Nat.{ℕ, ◌+◌}
+use native.Mathlib.Omega.{arith}
+use borrow.Author.Rules.{rules}
+use lib.ListN.{get_or, drop}
+use Rattle.model.specs.Encoding.{unfrozen, is_unfrozen}
+use Rattle.model.proofs.Lists.{bit-small}
+use Rattle.inputs.proofs.Folds.{unfrozen-more, unfrozen-end}
+use Rattle.inputs.proofs.unfrozen_of.Goals as goal
+
+pub overflow_add-k : goal.overflow_add-k
+overflow_add-k c =
+    omega (arith, c.unfrozen_bit-k.ensures, bit-small (is_unfrozen (get_or c.args.mask.now c.loop-i.i 0)))
+
+pub loop-i-preserved : goal.loop-i-preserved
+loop-i-preserved c =
+    let mask = c.args.mask.now in (
+      search rules,
+      omega (arith, c.unfrozen_bit-k.ensures, bit-small (is_unfrozen (get_or mask c.loop-i.i 0))),
+      c.loop-i.invariant.2 ∙ unfrozen-more c.loop-i.k mask c.loop-i.i (search rules)
+          ∙ ap (λ (b : ℕ). c.loop-i.k + b + unfrozen (drop (c.loop-i.i + 1) mask)) (sym c.unfrozen_bit-k.ensures),
+    )
+
+pub returns : goal.returns
+returns c =
+    let a = c.args in
+    sym (c.loop-i.invariant.2 ∙ unfrozen-end c.loop-i.k a.mask.now c.loop-i.i (search rules))
