@@ -15,18 +15,18 @@ use Rattle.samples.proofs.with_sign.Tie as tie
 small : (c : tie.Start) → c.args.n < 2 ^ 31
 small c = lt_of_lt_of_le c.requires (lit≤ tt)
 
-sub-result : tie.Need-overflow-sub-result
+sub-result : tie.Need-overflow_sub-result
 sub-result c = minus-fits c.before.args.n (small c.before)
 
-returns : tie.Need-returns
+returns : tie.Need-returns-then-minus
 returns c =
     let a = c.before.args in
-    minus-back a.n (small c.before) ∙ sym (ap (λ (s : Bool). signed s a.n) c.if1.true)
+    minus-back a.n (small c.before) ∙ sym (ap (λ (s : Bool). signed s a.n) c.if-minus.true)
 
-returns-2 : tie.Need-returns-2
+returns-2 : tie.Need-returns-else-minus
 returns-2 c =
     let a = c.before.args in
-    to_z_pos w32 a.n (small c.before) ∙ sym (ap (λ (s : Bool). signed s a.n) c.if1.false)
+    to_z_pos w32 a.n (small c.before) ∙ sym (ap (λ (s : Bool). signed s a.n) c.if-minus.false)
 
-pub with-sign-spec : {M : Type 1} → statement M
-with-sign-spec = tie.close (tie.spec (λ c. search rules) sub-result (λ c. search rules) returns returns-2)
+pub with_sign_spec : {M : Type 1} → statement M
+with_sign_spec = tie.close (tie.spec (λ c. search rules) sub-result (λ c. search rules) returns returns-2)
