@@ -10,9 +10,9 @@ use lib.IntN.{ℤ, pos, neg_ℤ, nat_abs}
 use lib.ListN.{length, take, length-map, get_or-map}
 use lib.Seq.{get_or-take}
 use Rattle.model.specs.Lists.{at_most, on_ones, over}
-use Rattle.model.specs.Soft.{Soft, finite, Finite, soft_zero, ◌at◌, word_of, mark}
+use Rattle.model.specs.Soft.{Soft, finite, certain, certain_one, Finite, soft_zero, ◌at◌, word_of, mark}
 use Rattle.model.specs.Encoding.{unfrozen, frozen_to_zero, encode}
-use Rattle.model.specs.Scan.{Decoded, flip_bit, decided, decode_scan, FlippedBy}
+use Rattle.model.specs.Scan.{Decoded, flip_bit, FlippedBy}
 use Rattle.model.specs.Bounds.{Under, limit}
 use Rattle.model.specs.Refusals.{exponent, accepted, DecodeCall, with_llrs, decode_number, decode_answer, decode_cycles, decode_check, decode_undecided, decode_soft, decode_hard, decode_payload}
 use Rattle.model.proofs.Flips.{flip-words}
@@ -62,6 +62,8 @@ module _ (g : Given) (e : Ended) (ends : Ends g e) (ok : decode_number (call_of 
   -- a value that is not certain is below the mark
   below-mark : (s : Soft) → Finite s → Under true limit s → nat_abs (word_of s) < mark
   below-mark (finite z) f u = omega arith
+  below-mark certain f u = elim f [ ]
+  below-mark certain_one f u = elim f [ ]
 
   soft-below : (j : ℕ) → j < length g.mask → Finite (d.soft at j) → nat_abs (word e.buffers.soft j) < mark
   soft-below j h f =

@@ -1,0 +1,16 @@
+-- `scan_flip::later_tests` meets its contract: its tests are the rows' in their order. Assumes nothing.
+use mathlib.Core.Path.{ap, ◌∙◌}
+use mathlib.Core.Bool.{cond}
+use Prim.Native.Nat.{ℕ}
+use lib.Dec.{leb}
+use Rattle.model.specs.Refusals.{refusal}
+use Rattle.scan_flip.proofs.later_tests.Goals as goal
+
+pub returns : goal.returns
+unfolding refusal
+returns c =
+    let a = c.args in
+    let fourth = c.tested-fourth.ensures ∙ ap (λ (r : ℕ). cond (leb a.k a.payload) r 11) c.tested-last.ensures in
+    let third = c.tested-third.ensures ∙ ap (λ (r : ℕ). cond a.good r 7) fourth in
+    let second = c.tested-second.ensures ∙ ap (λ (r : ℕ). cond (leb a.attempts 31) r 19) third in
+    c.tested.ensures ∙ ap (λ (r : ℕ). cond (leb 9 a.k) r 18) second
