@@ -6,7 +6,7 @@ use test_tools::buffers::{Bytes, bytes, draw_words, lent_bytes, lent_words, shor
 use test_tools::numbers::choose;
 
 // The lengths that a decode is called with, and its sweeps.
-#[derive(Drop)]
+#[derive(Clone, Copy)]
 pub struct Lengths {
     pub mask: usize,
     pub plan: usize,

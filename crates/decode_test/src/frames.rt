@@ -10,7 +10,7 @@ const INF: i32 = 2147483647;
 const MINUS_INF: i32 = -2147483647;
 
 // A decode with the planner's plan.
-#[derive(Drop)]
+#[derive(Clone, Copy)]
 struct Frame {
     stage: usize,
     // The mask's bytes as decimal digits.

@@ -3,15 +3,18 @@
 // Each line of the output has a group of cases, how many came out right, and how many there are; for decodes of drawn LLRs also how many
 // have undecided bits. A case that does not come out right is printed with the numbers that determine it: `found(group, stage, index)` runs
 // it alone, and a case of the numbers after these, handed to the function that is called for the group, does so too.
+#![tactic(auto)]
+
 mod accepted;
 mod calls;
 mod frames;
 mod refusals;
 
-ghost use Rattle.std.specs.Prelude.{◌≤◌};
+ghost use Rattle.std.specs.Prelude.{◌≤◌, IfOk};
 
 use accepted::Found;
 use reference::cases::Case;
+use std::io;
 use test_tools::numbers::{case_seed, length_of, one_if};
 use test_tools::report::{begin_report, end_line, print_number, print_values};
 
@@ -156,38 +159,44 @@ fn found(group: usize, stage: usize, i: usize) -> Found {
 
 // ---- what is printed
 
-fn print_case(c: Case) {
+fn print_case(rt: &impl Print, c: Case) -> io::Result<()> {
     print_values(
+        rt,
         b", mask |, detail |, ones |, plan |, LLRs |, sweeps ",
         [c.mask, c.detail, c.ones, c.plan, c.llrs, c.sweeps, 0, 0],
-    );
+    )
 }
 
-fn print_faults(faults: usize, variant: usize) {
-    print_values(b", faults |, variant ", [faults, variant, 0, 0, 0, 0, 0, 0]);
+fn print_faults(rt: &impl Print, faults: usize, variant: usize) -> io::Result<()> {
+    print_values(
+        rt,
+        b", faults |, variant ",
+        [faults, variant, 0, 0, 0, 0, 0, 0],
+    )
 }
 
-fn print_mismatch(group: usize, stage: usize, i: usize) {
+fn print_mismatch(rt: &impl Print, group: usize, stage: usize, i: usize) -> io::Result<()> {
     let seed = case_seed(group, stage, i);
     print_values(
+        rt,
         b"mismatch: group |, stage |, index |, seed ",
         [group, stage, i, seed as usize, 0, 0, 0, 0],
-    );
+    )?;
     match group {
-        1 | 2 | 3 | 4 | 5 => print_case(case_of(group, stage, i)),
-        6 | 7 | 8 | 9 => print_faults(faults_of(group, i), variant_of(group, i, seed)),
+        1 | 2 | 3 | 4 | 5 => print_case(rt, case_of(group, stage, i))?,
+        6 | 7 | 8 | 9 => print_faults(rt, faults_of(group, i), variant_of(group, i, seed))?,
         _ => {}
     }
-    end_line();
+    end_line(rt)
 }
 
 // How a case comes out; prints it if it is not right.
-fn shown(group: usize, stage: usize, i: usize) -> Found {
+fn shown(rt: &impl Print, group: usize, stage: usize, i: usize) -> io::Result<Found> {
     let case = found(group, stage, i);
     if !case.right {
-        print_mismatch(group, stage, i);
+        print_mismatch(rt, group, stage, i)?;
     }
-    case
+    Ok(case)
 }
 
 // How many cases came out right, and how many have undecided bits.
@@ -198,37 +207,38 @@ struct Counts {
 }
 
 // The counts of the first `count` cases.
-fn count_cases(group: usize, stage: usize, count: usize) -> Counts
+fn count_cases(rt: &impl Print, group: usize, stage: usize, count: usize) -> io::Result<Counts>
     requires { count ≤ 65536 }
-    ensures { (result.right ≤ 65536) × (result.undecided ≤ 65536) }
+    ensures { IfOk result (λ c. (c.right ≤ 65536) × (c.undecided ≤ 65536)) }
 {
     let mut right = 0;
     let mut undecided = 0;
     let mut i = 0;
     while i < count {
-        let case = shown(group, stage, i);
+        let case = shown(rt, group, stage, i)?;
         right += one_if(case.right);
         undecided += one_if(case.undecided);
         i += 1;
     }
-    Counts { right, undecided }
+    Ok(Counts { right, undecided })
 }
 
-fn report_line(group: usize, counts: Counts, all: usize) {
+fn report_line(rt: &impl Print, group: usize, counts: Counts, all: usize) -> io::Result<()> {
     begin_report(
+        rt,
         b"frames: |every mask to N 8: | drawn cases |kinds at every size: |encoded words: |changed plans: |decode, one or two faults: |decode, sets of faults: |check, sets of faults: |planner, sets of faults: |lengths of the mask: ",
         group,
         counts.right,
         all,
-    );
+    )?;
     if has_drawn_llrs(group) {
-        print_number(b", with undecided bits ", counts.undecided);
+        print_number(rt, b", with undecided bits ", counts.undecided)?;
     }
-    end_line();
+    end_line(rt)
 }
 
 // A group with the same number of cases for each N to 2 ^ stages.
-fn report_group(group: usize, stages: usize, count: usize)
+fn report_group(rt: &impl Print, group: usize, stages: usize, count: usize) -> io::Result<()>
     requires { (stages ≤ 10) × (count ≤ 65536) }
 {
     let mut right = 0;
@@ -236,13 +246,13 @@ fn report_group(group: usize, stages: usize, count: usize)
     let mut all = 0;
     let mut stage = 1;
     while stage <= stages {
-        let c = count_cases(group, stage, count);
+        let c = count_cases(rt, group, stage, count)?;
         right += c.right;
         undecided += c.undecided;
         all += count;
         stage += 1;
     }
-    report_line(group, Counts { right, undecided }, all);
+    report_line(rt, group, Counts { right, undecided }, all)
 }
 
 // Fewer cases for the largest N.
@@ -258,26 +268,27 @@ fn drawn_count(stage: usize) -> usize
 }
 
 // One line for each N.
-fn report_drawn() {
+fn report_drawn(rt: &impl Print) -> io::Result<()> {
     let mut stage = 1;
     while stage <= 10 {
         let count = drawn_count(stage);
-        print_number(b"N ", length_of(stage));
-        report_line(DRAWN, count_cases(DRAWN, stage, count), count);
+        print_number(rt, b"N ", length_of(stage))?;
+        report_line(rt, DRAWN, count_cases(rt, DRAWN, stage, count)?, count)?;
         stage += 1;
     }
+    Ok(())
 }
 
-fn main() {
-    report_group(FRAMES, 1, 18);
-    report_group(EVERY_MASK, 3, 26244);
-    report_drawn();
-    report_group(KINDS, 10, 1408);
-    report_group(SIGNS, 10, 512);
-    report_group(CHANGED_PLANS, 10, 512);
-    report_group(TWO_FAULTS, 10, 1452);
-    report_group(FAULTS, 10, 2048);
-    report_group(CHECK_FAULTS, 10, 192);
-    report_group(PLANNER_FAULTS, 10, 96);
-    report_group(LENGTHS, 1, 2056);
+fn main(rt: HostRuntime) -> io::Result<()> {
+    report_group(&rt, FRAMES, 1, 18)?;
+    report_group(&rt, EVERY_MASK, 3, 26244)?;
+    report_drawn(&rt)?;
+    report_group(&rt, KINDS, 10, 1408)?;
+    report_group(&rt, SIGNS, 10, 512)?;
+    report_group(&rt, CHANGED_PLANS, 10, 512)?;
+    report_group(&rt, TWO_FAULTS, 10, 1452)?;
+    report_group(&rt, FAULTS, 10, 2048)?;
+    report_group(&rt, CHECK_FAULTS, 10, 192)?;
+    report_group(&rt, PLANNER_FAULTS, 10, 96)?;
+    report_group(&rt, LENGTHS, 1, 2056)
 }

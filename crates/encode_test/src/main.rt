@@ -1,9 +1,12 @@
 // Compares the encoder and the transform with a plain matrix product over drawn inputs, and tries their refusals.
 // Each line of the output has a group of cases, how many came out right, and how many there are. A case that does not come out right
 // is printed with its numbers: `right(group, index)` runs it alone.
+#![tactic(auto)]
+
 mod calls;
 mod cases;
 
+use std::io;
 use test_tools::numbers::{case_seed, length_of, one_if};
 use test_tools::report::{report, shown};
 
@@ -21,27 +24,28 @@ fn right(group: usize, i: usize) -> bool {
     }
 }
 
-fn report_group(group: usize, count: usize) {
+fn report_group(rt: &impl Print, group: usize, count: usize) -> io::Result<()> {
     let mut sum = 0;
     let mut i = 0;
     while i < count {
-        sum += one_if(shown(right(group, i), group, i));
+        sum += one_if(shown(rt, right(group, i), group, i)?);
         i += 1;
     }
     report(
+        rt,
         b"frames: |encode: |transform: |transform lengths: |mask lengths: |every mask and payload to N 4: |refusals: ",
         group,
         sum,
         count,
-    );
+    )
 }
 
-fn main() {
-    report_group(0, 2);
-    report_group(1, 2000);
-    report_group(2, 1000);
-    report_group(3, 2056);
-    report_group(4, 2056);
-    report_group(5, 2592);
-    report_group(6, 288);
+fn main(rt: HostRuntime) -> io::Result<()> {
+    report_group(&rt, 0, 2)?;
+    report_group(&rt, 1, 2000)?;
+    report_group(&rt, 2, 1000)?;
+    report_group(&rt, 3, 2056)?;
+    report_group(&rt, 4, 2056)?;
+    report_group(&rt, 5, 2592)?;
+    report_group(&rt, 6, 288)
 }

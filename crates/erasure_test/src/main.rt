@@ -2,41 +2,45 @@
 // there, which come on standard input with calls that are refused.
 // Each line of the output has a group of cases, how many there are, and how many of their calls came out right; a call that does not is
 // printed with its numbers.
+#![tactic(auto)]
+
 mod calls;
 mod rates;
 
 use calls::{run_call, run_order};
 use rates::{run_floats, run_rates};
+use std::io;
 use test_tools::buffers::{byte_at, bytes};
+use test_tools::input::read_full;
 use test_tools::tally::{Tally, end_group, no_cases, report_count, with_count};
 use test_tools::texts::{find, part};
 
 // A line of the file: a comment, the end of a group, rates near or equal to those of the line, an order for masks, or a refused call.
-fn run_line(t: Tally, line: &[u8]) -> Tally {
+fn run_line(rt: &impl Print, t: Tally, line: &[u8]) -> io::Result<Tally> {
     match byte_at(line, 0) {
-        b'#' => t,
-        b'=' => end_group(t, part(line, 2, line.len())),
-        b'r' => with_count(t, run_rates(line)),
-        b'f' => with_count(t, run_floats(line)),
-        b'o' => with_count(t, run_order(line)),
-        _ => with_count(t, run_call(line)),
+        b'#' => Ok(t),
+        b'=' => end_group(rt, t, part(line, 2, line.len())),
+        b'r' => Ok(with_count(t, run_rates(rt, line)?)),
+        b'f' => Ok(with_count(t, run_floats(rt, line)?)),
+        b'o' => Ok(with_count(t, run_order(rt, line)?)),
+        _ => Ok(with_count(t, run_call(rt, line)?)),
     }
 }
 
-fn run_file(file: &[u8]) -> Tally {
+fn run_file(rt: &impl Print, file: &[u8]) -> io::Result<Tally> {
     let mut t = no_cases();
     let mut at = 0;
     while at < file.len() {
         let e = find(file, at, b'\n');
-        t = run_line(t, part(file, at, e));
+        t = run_line(rt, t, part(file, at, e))?;
         at = e + 1;
     }
-    t
+    Ok(t)
 }
 
-fn main() {
+fn main(rt: HostRuntime) -> io::Result<()> {
     let mut file = [0u8; 131072];
-    let n = io::read_full(0, &mut file);
-    let t = run_file(bytes(&file, n));
-    report_count(b"all", t.total);
+    let n = read_full(&mut rt.stdin(), &mut file)?;
+    let t = run_file(&rt, bytes(&file, n))?;
+    report_count(&rt, b"all", t.total)
 }

@@ -1,4 +1,5 @@
 // The rates of 1024 positions beside the exact ones.
+use std::io;
 use test_tools::numbers::{both, one_if};
 use test_tools::report::{end_line, print_values};
 use test_tools::tally::Count;
@@ -34,20 +35,27 @@ fn near(rate: f64, expected: f64, limit: f64) -> bool {
 }
 
 // Whether a position's rate is within the limit of the expected one, which is given by its bits. Prints the position if not.
-fn right_rate(position: usize, rate: f64, expected: usize, limit: f64) -> bool {
+fn right_rate(
+    rt: &impl Print,
+    position: usize,
+    rate: f64,
+    expected: usize,
+    limit: f64,
+) -> io::Result<bool> {
     let right = near(rate, float(expected as u64), limit);
     if !right {
         print_values(
+            rt,
             b"mismatch: the rate of position | is not near that of bits ",
             [position, expected, 0, 0, 0, 0, 0, 0],
-        );
-        end_line();
+        )?;
+        end_line(rt)?;
     }
-    right
+    Ok(right)
 }
 
 // A line is WORD Z RATES: a case for each position.
-fn run_within(line: &[u8], limit: f64) -> Count {
+fn run_within(rt: &impl Print, line: &[u8], limit: f64) -> io::Result<Count> {
     let mut values = [0.0f64; 1024];
     erasure::rates(float(value_at(line, 1) as u64), 10, &mut values);
     let expected = field(line, 2);
@@ -55,22 +63,22 @@ fn run_within(line: &[u8], limit: f64) -> Count {
     let mut i = 0;
     while i < 1024 {
         let bits = value(part(expected, 16 * i, 16 * i + 16));
-        right += one_if(right_rate(i, values[i], bits, limit));
+        right += one_if(right_rate(rt, i, values[i], bits, limit)?);
         i += 1;
     }
-    Count {
+    Ok(Count {
         cases: 1024,
         right,
         calls: 1024,
-    }
+    })
 }
 
 // Rates near exact ones.
-pub fn run_rates(line: &[u8]) -> Count {
-    run_within(line, LIMIT)
+pub fn run_rates(rt: &impl Print, line: &[u8]) -> io::Result<Count> {
+    run_within(rt, line, LIMIT)
 }
 
 // Rates in binary64, exactly.
-pub fn run_floats(line: &[u8]) -> Count {
-    run_within(line, 0.0)
+pub fn run_floats(rt: &impl Print, line: &[u8]) -> io::Result<Count> {
+    run_within(rt, line, 0.0)
 }

@@ -24,7 +24,7 @@ pub struct Inputs {
 }
 
 // The lengths of the buffers that are lent to a call, how many words are to be zero after it, and the seed of the words before it.
-#[derive(Drop)]
+#[derive(Clone, Copy)]
 pub struct Lent {
     pub room: usize,
     pub words: usize,
@@ -33,7 +33,7 @@ pub struct Lent {
 }
 
 // The kind of an answer is the first letter of matched, unmatched or refused.
-#[derive(Drop)]
+#[derive(Clone, Copy)]
 pub struct Answer {
     pub kind: u8,
     pub number: u32,

@@ -1,7 +1,8 @@
 // Cases: a line of the file read, and its calls compared with the answer that it has.
-ghost use Rattle.std.specs.Prelude.{◌≤◌};
+ghost use Rattle.std.specs.Prelude.{◌≤◌, IfOk};
 
 use crate::calls::{Answer, FILLER, Inputs, Lent, called};
+use std::io;
 use test_tools::buffers::{Bytes, byte_at, same_bytes};
 use test_tools::numbers::{both, case_seed, choose, least, one_if, signed};
 use test_tools::report::{end_line, print_values};
@@ -47,8 +48,16 @@ fn answer_in(line: &[u8]) -> Answer {
 // ---- its calls
 
 // A call that differs: the case's number, the buffers, what came, with the code of the answer's first letter, and the line.
-fn print_mismatch(case: usize, lent: Lent, answer: Answer, work: bool, line: &[u8]) {
+fn print_mismatch(
+    rt: &impl Print,
+    case: usize,
+    lent: Lent,
+    answer: Answer,
+    work: bool,
+    line: &[u8],
+) -> io::Result<()> {
     print_values(
+        rt,
         b"mismatch: case |, payload buffer of |, workspace of |; answer |, number |, workspace right ",
         [
             case,
@@ -60,10 +69,10 @@ fn print_mismatch(case: usize, lent: Lent, answer: Answer, work: bool, line: &[u
             0,
             0,
         ],
-    );
-    end_line();
-    io::write_all(1, line);
-    end_line();
+    )?;
+    end_line(rt)?;
+    rt.write_all(line)?;
+    end_line(rt)
 }
 
 // Whether both have the same kind and number.
@@ -72,7 +81,7 @@ fn same_answer(a: Answer, b: Answer) -> bool {
 }
 
 // Whether a call answers and leaves what the line has. Prints the case if not.
-fn right(case: usize, line: &[u8], lent: Lent) -> bool {
+fn right(rt: &impl Print, case: usize, line: &[u8], lent: Lent) -> io::Result<bool> {
     let got = called(inputs_of(line), lent);
     let answer = got.answer;
     let payload = got.payload;
@@ -81,10 +90,10 @@ fn right(case: usize, line: &[u8], lent: Lent) -> bool {
         same_bytes(payload, digits_of(field(line, 8), FILLER)),
     );
     if both(same_answer(answer, answer_in(line)), left) {
-        return true;
+        return Ok(true);
     }
-    print_mismatch(case, lent, answer, got.work, line);
-    false
+    print_mismatch(rt, case, lent, answer, got.work, line)?;
+    Ok(false)
 }
 
 // Whether the line has a refused call.
@@ -106,29 +115,39 @@ fn lent_for(line: &[u8], extra: usize, seed: u32) -> Lent
 }
 
 // How many calls are right, of two with buffers longer by `extra` and different words in the workspace.
-fn both_fillings(case: usize, line: &[u8], extra: usize) -> usize
+fn both_fillings(rt: &impl Print, case: usize, line: &[u8], extra: usize) -> io::Result<usize>
     requires { extra ≤ 8 }
-    ensures { result ≤ 2 }
+    ensures { IfOk result (λ n. n ≤ 2) }
 {
-    let first = right(case, line, lent_for(line, extra, case_seed(1, extra, case)));
-    let second = right(case, line, lent_for(line, extra, case_seed(2, extra, case)));
-    one_if(first) + one_if(second)
+    let first = right(
+        rt,
+        case,
+        line,
+        lent_for(line, extra, case_seed(1, extra, case)),
+    )?;
+    let second = right(
+        rt,
+        case,
+        line,
+        lent_for(line, extra, case_seed(2, extra, case)),
+    )?;
+    Ok(one_if(first) + one_if(second))
 }
 
 // A line is ANSWER NUMBER MASK SWEEPS ATTEMPTS LLRS ROOM WORDS PAYLOAD NAME. An accepted call is made with longer buffers too.
-pub fn run_case(case: usize, line: &[u8]) -> Count {
-    let exact = both_fillings(case, line, 0);
+pub fn run_case(rt: &impl Print, case: usize, line: &[u8]) -> io::Result<Count> {
+    let exact = both_fillings(rt, case, line, 0)?;
     if is_refused(line) {
-        return Count {
+        return Ok(Count {
             cases: 1,
             right: exact,
             calls: 2,
-        };
+        });
     }
-    let longer = both_fillings(case, line, 1 + case % 8);
-    Count {
+    let longer = both_fillings(rt, case, line, 1 + case % 8)?;
+    Ok(Count {
         cases: 1,
         right: exact + longer,
         calls: 4,
-    }
+    })
 }

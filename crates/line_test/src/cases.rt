@@ -2,6 +2,7 @@
 ghost use Rattle.std.specs.Prelude.{◌+◌, ◌<◌, ◌≤◌};
 
 use crate::texts::{Text, text_of};
+use std::io;
 use test_tools::buffers::{bytes, lent_bytes};
 use test_tools::numbers::{both, least, one_if};
 use test_tools::report::{end_line, print_values};
@@ -25,25 +26,32 @@ fn with_call(c: Count, right: bool) -> Count {
     )
 }
 
-fn print_line(name: &[u8], text: &[u8]) {
-    io::write_all(1, name);
-    io::write_all(1, text);
-    end_line();
+fn print_line(rt: &impl Print, name: &[u8], text: &[u8]) -> io::Result<()> {
+    rt.write_all(name)?;
+    rt.write_all(text)?;
+    end_line(rt)
 }
 
-fn print_text(name: &[u8], t: Text) {
+fn print_text(rt: &impl Print, name: &[u8], t: Text) -> io::Result<()> {
     let text = t.bytes;
-    print_line(name, bytes(&text, t.length));
+    print_line(rt, name, bytes(&text, t.length))
 }
 
 // A call that differs: the case's number, the buffer, the record with the answer that is expected, and what came.
-fn print_mismatch(number: usize, room: usize, record: &[u8], got: Text) {
+fn print_mismatch(
+    rt: &impl Print,
+    number: usize,
+    room: usize,
+    record: &[u8],
+    got: Text,
+) -> io::Result<()> {
     print_values(
+        rt,
         b"mismatch: case |, buffer of ",
         [number, room, 0, 0, 0, 0, 0, 0],
-    );
-    print_line(b" bytes\n  name|input|expected: ", record);
-    print_text(b"  got: ", got);
+    )?;
+    print_line(rt, b" bytes\n  name|input|expected: ", record)?;
+    print_text(rt, b"  got: ", got)
 }
 
 // The answer to an input in a buffer of so many bytes, and the bytes behind it.
@@ -70,13 +78,20 @@ fn same_text(a: Text, b: Text) -> bool {
 
 // Whether an input's answer in a buffer of so many bytes is the text, as far as there is room, and leaves the bytes behind it.
 // Prints the case if not.
-fn answered(number: usize, record: &[u8], input: Text, text: Text, room: usize) -> bool {
+fn answered(
+    rt: &impl Print,
+    number: usize,
+    record: &[u8],
+    input: Text,
+    text: Text,
+    room: usize,
+) -> io::Result<bool> {
     let got = answer(input, room);
     if same_text(got, expected(text, room)) {
-        return true;
+        return Ok(true);
     }
-    print_mismatch(number, room, record, got);
-    false
+    print_mismatch(rt, number, room, record, got)?;
+    Ok(false)
 }
 
 // The step between the lengths of shorter buffers: every length for a short answer, and about 16 for a long one.
@@ -87,22 +102,36 @@ fn step_for(n: usize) -> usize
 }
 
 // The calls with shorter buffers, counted on.
-fn shorter(c: Count, number: usize, record: &[u8], input: Text, text: Text) -> Count {
+fn shorter(
+    rt: &impl Print,
+    c: Count,
+    number: usize,
+    record: &[u8],
+    input: Text,
+    text: Text,
+) -> io::Result<Count> {
     let length = least(text.length, ROOM);
     let step = step_for(length);
     let mut total = c;
     let mut room = 0;
     while room < length {
-        total = with_call(total, answered(number, record, input, text, room));
+        total = with_call(total, answered(rt, number, record, input, text, room)?);
         room += step;
     }
-    total
+    Ok(total)
 }
 
 // A case: a call with room for the answer, and if that is right the calls with shorter buffers.
-fn compared(number: usize, record: &[u8], input: Text, text: Text) -> Count {
-    if answered(number, record, input, text, ROOM) {
+fn compared(
+    rt: &impl Print,
+    number: usize,
+    record: &[u8],
+    input: Text,
+    text: Text,
+) -> io::Result<Count> {
+    if answered(rt, number, record, input, text, ROOM)? {
         shorter(
+            rt,
             Count {
                 cases: 1,
                 right: 1,
@@ -114,19 +143,19 @@ fn compared(number: usize, record: &[u8], input: Text, text: Text) -> Count {
             text,
         )
     } else {
-        Count {
+        Ok(Count {
             cases: 1,
             right: 0,
             calls: 1,
-        }
+        })
     }
 }
 
 // A record is NAME|INPUT|ANSWER.
-pub fn run_case(number: usize, record: &[u8]) -> Count {
+pub fn run_case(rt: &impl Print, number: usize, record: &[u8]) -> io::Result<Count> {
     let a = find(record, 0, b'|');
     let e = find(record, a + 1, b'|');
     let input = text_of(part(record, a + 1, e));
     let text = text_of(part(record, e + 1, record.len()));
-    compared(number, record, input, text)
+    compared(rt, number, record, input, text)
 }

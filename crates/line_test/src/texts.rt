@@ -18,7 +18,7 @@ fn put_times(s: &mut [u8], from: usize, text: &[u8], count: u32) -> usize {
 
 // What stands at a place of a text in the file: `count` times the part from `from` to `end`, or one byte if the count is 0; and the place
 // behind it.
-#[derive(Drop)]
+#[derive(Clone, Copy)]
 struct Token {
     byte: u8,
     from: usize,
@@ -102,7 +102,7 @@ fn unescape(s: &[u8], out: &mut [u8]) -> usize {
 
 // ---- texts by value
 
-#[derive(Drop)]
+#[derive(Clone, Copy)]
 pub struct Text {
     pub bytes: [u8; 20480],
     pub length: usize,

@@ -5,6 +5,7 @@
 ghost use Rattle.std.specs.Prelude.{◌<◌, ◌≤◌};
 
 use crate::distances::{right_mask, right_none};
+use std::io;
 use test_tools::numbers::{least, length_of, minus, one_if};
 use test_tools::report::{end_line, print_values};
 use test_tools::tally::{Count, sum};
@@ -122,33 +123,34 @@ fn least_row(mask: usize) -> usize {
 }
 
 // Whether a mask's least weight is its least row weight. Prints the mask if not.
-fn right_least(n: usize, mask: usize, weight: usize) -> bool {
+fn right_least(rt: &impl Print, n: usize, mask: usize, weight: usize) -> io::Result<bool> {
     let expected = least_row(mask);
     if weight != expected {
         print_values(
+            rt,
             b"mismatch: N |, mask |: least weight |, least row weight ",
             [n, mask, weight, expected, 0, 0, 0, 0],
-        );
-        end_line();
+        )?;
+        end_line(rt)?;
     }
-    weight == expected
+    Ok(weight == expected)
 }
 
 // A case for each mask.
-fn run_masks(n: usize, sets: usize, leasts: &Numbers) -> Count
+fn run_masks(rt: &impl Print, n: usize, sets: usize, leasts: &Numbers) -> io::Result<Count>
     requires { sets ≤ 65536 }
 {
     let mut right = 0;
     let mut mask = 1;
     while mask < sets {
-        right += one_if(right_least(n, mask, leasts[mask]));
+        right += one_if(right_least(rt, n, mask, leasts[mask])?);
         mask += 1;
     }
-    Count {
+    Ok(Count {
         cases: mask - 1,
         right,
         calls: mask - 1,
-    }
+    })
 }
 
 // ---- against the call
@@ -173,7 +175,7 @@ fn largest(k: usize, sets: usize, leasts: &Numbers) -> usize
 }
 
 // Two calls for each K: a mask is there for the largest least weight, and none for one more.
-fn run_largest(n: usize, sets: usize, leasts: &Numbers) -> Count
+fn run_largest(rt: &impl Print, n: usize, sets: usize, leasts: &Numbers) -> io::Result<Count>
     requires { (n ≤ 16) × (sets ≤ 65536) }
 {
     let mut right = 0;
@@ -182,19 +184,20 @@ fn run_largest(n: usize, sets: usize, leasts: &Numbers) -> Count
         k += 1;
         let d = largest(k, sets, leasts);
         let more = std::num::wrapping_add_usize(d, 1);
-        right += one_if(right_mask(n, k, d)) + one_if(right_none(n, k, more));
+        right += one_if(right_mask(rt, n, k, d)?) + one_if(right_none(rt, n, k, more)?);
     }
-    Count {
+    Ok(Count {
         cases: 0,
         right,
         calls: 2 * k,
-    }
+    })
 }
 
 // A line is all N.
-pub fn run_all(line: &[u8]) -> Count {
+pub fn run_all(rt: &impl Print, line: &[u8]) -> io::Result<Count> {
     let n = least(value_at(line, 1), 16);
     let sets = least(1usize << n, 65536);
     let leasts = all_leasts(sets);
-    sum(run_masks(n, sets, &leasts), run_largest(n, sets, &leasts))
+    let masks = run_masks(rt, n, sets, &leasts)?;
+    Ok(sum(masks, run_largest(rt, n, sets, &leasts)?))
 }

@@ -1,4 +1,5 @@
 // The call for a mask by row weight, on the first bytes of a buffer that holds fillers.
+use std::io;
 use test_tools::buffers::{Bytes, byte_at, lent_bytes};
 use test_tools::numbers::both;
 use test_tools::report::{end_line, print_values};
@@ -47,35 +48,53 @@ pub fn first_difference(a: Bytes, b: Bytes) -> usize {
 }
 
 // The place with different bytes, if there is one, and the end of the line.
-pub fn print_difference(left: Bytes, mask: Bytes, place: usize) {
+pub fn print_difference(rt: &impl Print, left: Bytes, mask: Bytes, place: usize) -> io::Result<()> {
     if place < 4112 {
         let a = byte_at(&left, place) as usize;
         let b = byte_at(&mask, place) as usize;
-        print_values(b"; byte | is |, expected ", [place, a, b, 0, 0, 0, 0, 0]);
+        print_values(
+            rt,
+            b"; byte | is |, expected ",
+            [place, a, b, 0, 0, 0, 0, 0],
+        )?;
     }
-    end_line();
+    end_line(rt)
 }
 
 // The call, both numbers and the difference.
-fn print_mismatch(got: Answer, number: u32, mask: Bytes, place: usize) {
+fn print_mismatch(
+    rt: &impl Print,
+    got: Answer,
+    number: u32,
+    mask: Bytes,
+    place: usize,
+) -> io::Result<()> {
     let left = got.mask;
     let answer = got.number as usize;
     let wanted = number as usize;
     print_values(
+        rt,
         b"mismatch: N |, K |, buffer of | bytes: number |, expected ",
         [got.n, got.k, got.room, answer, wanted, 0, 0, 0],
-    );
-    print_difference(left, mask, place);
+    )?;
+    print_difference(rt, left, mask, place)
 }
 
 // Whether a call answers the number and leaves the mask. Prints the call if not.
-pub fn right(n: usize, k: usize, room: usize, number: u32, mask: Bytes) -> bool {
+pub fn right(
+    rt: &impl Print,
+    n: usize,
+    k: usize,
+    room: usize,
+    number: u32,
+    mask: Bytes,
+) -> io::Result<bool> {
     let got = called(n, k, room);
     let left = got.mask;
     let place = first_difference(left, mask);
     if both(got.number == number, place == 4112) {
-        return true;
+        return Ok(true);
     }
-    print_mismatch(got, number, mask, place);
-    false
+    print_mismatch(rt, got, number, mask, place)?;
+    Ok(false)
 }

@@ -3,6 +3,7 @@ ghost use Rattle.std.specs.Prelude.{◌≤◌};
 
 use crate::calls::{FILLER, first_difference, mask_of, print_difference};
 use masks::ForDistance;
+use std::io;
 use test_tools::buffers::{Bytes, lent_bytes};
 use test_tools::numbers::{both, minus};
 use test_tools::report::print_values;
@@ -45,27 +46,42 @@ fn called(n: usize, k: usize, d: usize, room: usize) -> Answer {
 }
 
 // The call, both answers and the difference.
-fn print_mismatch(got: Answer, answer: u32, mask: Bytes, place: usize) {
+fn print_mismatch(
+    rt: &impl Print,
+    got: Answer,
+    answer: u32,
+    mask: Bytes,
+    place: usize,
+) -> io::Result<()> {
     let left = got.mask;
     let given = got.answer as usize;
     let wanted = answer as usize;
     print_values(
+        rt,
         b"mismatch: N |, K |, distance |, buffer of | bytes: answer |, expected ",
         [got.n, got.k, got.d, got.room, given, wanted, 0, 0],
-    );
-    print_difference(left, mask, place);
+    )?;
+    print_difference(rt, left, mask, place)
 }
 
 // Whether a call gives the answer and leaves the mask. Prints the call if not.
-pub fn right_answer(n: usize, k: usize, d: usize, room: usize, answer: u32, mask: Bytes) -> bool {
+pub fn right_answer(
+    rt: &impl Print,
+    n: usize,
+    k: usize,
+    d: usize,
+    room: usize,
+    answer: u32,
+    mask: Bytes,
+) -> io::Result<bool> {
     let got = called(n, k, d, room);
     let left = got.mask;
     let place = first_difference(left, mask);
     if both(got.answer == answer, place == 4112) {
-        return true;
+        return Ok(true);
     }
-    print_mismatch(got, answer, mask, place);
-    false
+    print_mismatch(rt, got, answer, mask, place)?;
+    Ok(false)
 }
 
 // N bytes, or up to seven more.
@@ -76,15 +92,15 @@ fn room_of(n: usize, k: usize) -> usize
 }
 
 // Whether the mask by row weight is written for a distance, and no byte behind it. Prints the call if not.
-pub fn right_mask(n: usize, k: usize, d: usize) -> bool
+pub fn right_mask(rt: &impl Print, n: usize, k: usize, d: usize) -> io::Result<bool>
     requires { n ≤ 1024 }
 {
-    right_answer(n, k, d, room_of(n, k), 256, mask_of(n, k))
+    right_answer(rt, n, k, d, room_of(n, k), 256, mask_of(n, k))
 }
 
 // Whether there is no mask for a distance, and the buffer stays. Prints the call if not.
-pub fn right_none(n: usize, k: usize, d: usize) -> bool
+pub fn right_none(rt: &impl Print, n: usize, k: usize, d: usize) -> io::Result<bool>
     requires { n ≤ 1024 }
 {
-    right_answer(n, k, d, room_of(n, k), 0, [FILLER; 4112])
+    right_answer(rt, n, k, d, room_of(n, k), 0, [FILLER; 4112])
 }

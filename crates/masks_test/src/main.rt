@@ -4,6 +4,8 @@
 // all words of all masks; there also each mask's least weight with the least row weight of its positions.
 // Each line of the output has a group of cases, how many there are, and how many of their calls came out right; a call that does not is
 // printed with its numbers.
+#![tactic(auto)]
+
 mod all_masks;
 mod calls;
 mod distances;
@@ -17,41 +19,47 @@ use all_masks::run_all;
 use edges::run_edges;
 use orders::run_order;
 use refusals::{run_call, run_distance};
+use std::io;
 use test_tools::buffers::{byte_at, bytes};
+use test_tools::input::read_full;
 use test_tools::tally::{Tally, end_group, no_cases, report_count, with_count};
 use test_tools::texts::{find, part};
 use weights::{run_along, run_weights};
 
 // A line of the file: a comment, the end of a group, an order for masks or for weights, exponents for distances, an N whose masks are
 // all tried, or a refused call.
-fn run_line(t: Tally, line: &[u8]) -> Tally {
+fn run_line(rt: &impl Print, t: Tally, line: &[u8]) -> io::Result<Tally> {
     match byte_at(line, 0) {
-        b'#' => t,
-        b'=' => end_group(t, part(line, 2, line.len())),
-        b'o' => with_count(t, run_order(line)),
-        b'w' => with_count(t, run_along(line)),
-        b'e' => with_count(t, run_edges(line)),
-        b'a' => with_count(t, run_all(line)),
-        b'd' => with_count(t, run_distance(line)),
-        _ => with_count(t, run_call(line)),
+        b'#' => Ok(t),
+        b'=' => end_group(rt, t, part(line, 2, line.len())),
+        b'o' => Ok(with_count(t, run_order(rt, line)?)),
+        b'w' => Ok(with_count(t, run_along(rt, line)?)),
+        b'e' => Ok(with_count(t, run_edges(rt, line)?)),
+        b'a' => Ok(with_count(t, run_all(rt, line)?)),
+        b'd' => Ok(with_count(t, run_distance(rt, line)?)),
+        _ => Ok(with_count(t, run_call(rt, line)?)),
     }
 }
 
-fn run_file(file: &[u8]) -> Tally {
+fn run_file(rt: &impl Print, file: &[u8]) -> io::Result<Tally> {
     let mut t = no_cases();
     let mut at = 0;
     while at < file.len() {
         let e = find(file, at, b'\n');
-        t = run_line(t, part(file, at, e));
+        t = run_line(rt, t, part(file, at, e))?;
         at = e + 1;
     }
-    t
+    Ok(t)
 }
 
-fn main() {
+fn main(rt: HostRuntime) -> io::Result<()> {
     let mut file = [0u8; 65536];
-    let n = io::read_full(0, &mut file);
-    let t = with_count(run_file(bytes(&file, n)), run_weights());
-    let all = end_group(t, b"weights of the rows");
-    report_count(b"all", all.total);
+    let n = read_full(&mut rt.stdin(), &mut file)?;
+    let t = run_file(&rt, bytes(&file, n))?;
+    let all = end_group(
+        &rt,
+        with_count(t, run_weights(&rt)?),
+        b"weights of the rows",
+    )?;
+    report_count(&rt, b"all", all.total)
 }

@@ -3,6 +3,7 @@ ghost use Rattle.std.specs.Prelude.{◌≤◌};
 
 use crate::calls::{FILLER, right};
 use crate::fields::position_at;
+use std::io;
 use test_tools::buffers::Bytes;
 use test_tools::numbers::{least, one_if};
 use test_tools::tally::{Count, sum};
@@ -21,23 +22,23 @@ fn all_frozen(n: usize) -> Bytes {
 }
 
 // Calls with a buffer of N bytes and with one of up to eight more, whose tail stays.
-fn run_mask(n: usize, k: usize, mask: Bytes) -> Count
+fn run_mask(rt: &impl Print, n: usize, k: usize, mask: Bytes) -> io::Result<Count>
     requires { n ≤ 1024 }
 {
-    let exact = right(n, k, n, 0, mask);
-    let longer = right(n, k, n + 1 + k % 8, 0, mask);
-    Count {
+    let exact = right(rt, n, k, n, 0, mask)?;
+    let longer = right(rt, n, k, n + 1 + k % 8, 0, mask)?;
+    Ok(Count {
         cases: 1,
         right: one_if(exact) + one_if(longer),
         calls: 2,
-    }
+    })
 }
 
 // A line is order N POSITIONS. The mask of K is the one of K - 1 with one position more unfrozen.
-pub fn run_order(line: &[u8]) -> Count {
+pub fn run_order(rt: &impl Print, line: &[u8]) -> io::Result<Count> {
     let n = least(value_at(line, 1), 1024);
     let mut mask = all_frozen(n);
-    let mut count = run_mask(n, 0, mask);
+    let mut count = run_mask(rt, n, 0, mask)?;
     let mut k = 0;
     while k < n {
         let p = position_at(line, k);
@@ -45,7 +46,7 @@ pub fn run_order(line: &[u8]) -> Count {
             mask[p] = 0;
         }
         k += 1;
-        count = sum(count, run_mask(n, k, mask));
+        count = sum(count, run_mask(rt, n, k, mask)?);
     }
-    count
+    Ok(count)
 }

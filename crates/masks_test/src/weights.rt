@@ -2,6 +2,7 @@
 ghost use Rattle.std.specs.Prelude.{◌<◌};
 
 use crate::fields::position_at;
+use std::io;
 use test_tools::numbers::{least, one_if};
 use test_tools::report::{end_line, print_values};
 use test_tools::tally::Count;
@@ -30,33 +31,34 @@ fn ones_of_row(i: usize) -> usize
 }
 
 // Whether the weight of row i is the number of its ones. Prints the row if not.
-fn right_weight(i: usize) -> bool
+fn right_weight(rt: &impl Print, i: usize) -> io::Result<bool>
     requires { i < 1024 }
 {
     let weight = masks::row_weight(i);
     let expected = ones_of_row(i);
     if weight != expected {
         print_values(
+            rt,
             b"mismatch: row |: weight |, expected ",
             [i, weight, expected, 0, 0, 0, 0, 0],
-        );
-        end_line();
+        )?;
+        end_line(rt)?;
     }
-    weight == expected
+    Ok(weight == expected)
 }
 
-pub fn run_weights() -> Count {
+pub fn run_weights(rt: &impl Print) -> io::Result<Count> {
     let mut right = 0;
     let mut i = 0;
     while i < 1024 {
-        right += one_if(right_weight(i));
+        right += one_if(right_weight(rt, i)?);
         i += 1;
     }
-    Count {
+    Ok(Count {
         cases: 1024,
         right,
         calls: 1024,
-    }
+    })
 }
 
 // ---- along the order
@@ -67,31 +69,32 @@ fn weight_of(i: usize) -> usize {
 }
 
 // Whether a position's weight is at most that of the one before it. Prints both if not.
-fn right_step(before: usize, after: usize) -> bool {
+fn right_step(rt: &impl Print, before: usize, after: usize) -> io::Result<bool> {
     let a = weight_of(before);
     let b = weight_of(after);
     if a < b {
         print_values(
+            rt,
             b"mismatch: row | of weight | stands before row | of weight ",
             [before, a, after, b, 0, 0, 0, 0],
-        );
-        end_line();
+        )?;
+        end_line(rt)?;
     }
-    b <= a
+    Ok(b <= a)
 }
 
 // A line is weights N POSITIONS.
-pub fn run_along(line: &[u8]) -> Count {
+pub fn run_along(rt: &impl Print, line: &[u8]) -> io::Result<Count> {
     let n = least(value_at(line, 1), 1024);
     let mut right = 0;
     let mut rank = 1;
     while rank < n {
-        right += one_if(right_step(position_at(line, rank - 1), position_at(line, rank)));
+        right += one_if(right_step(rt, position_at(line, rank - 1), position_at(line, rank))?);
         rank += 1;
     }
-    Count {
+    Ok(Count {
         cases: rank - 1,
         right,
         calls: rank - 1,
-    }
+    })
 }

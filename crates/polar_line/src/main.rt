@@ -1,41 +1,45 @@
 // The line program: reads one line from standard input and prints its answer.
-ghost use Rattle.std.specs.Prelude.{◌≡◌, ◌+◌, ◌<◌, ◌≤◌, length, take};
-ghost use Rattle.io.specs.Counts.{IsPrefixLen};
+#![tactic(auto)]
+
+ghost use Rattle.std.specs.Prelude.{◌≡◌, ◌+◌, ◌<◌, ◌≤◌, length, take, IfOk, OnErr};
+ghost use Rattle.polar_line.specs.Counts.{IsPrefixLen};
 ghost use Rattle.fields.specs.Grammar.{first_of, feed, max_line};
 ghost use Rattle.line.specs.Program.{answer_text, max_text};
 
-use libc::{STDIN_FILENO, STDOUT_FILENO};
+use std::io;
+use std::io::Read;
 
 // One read, behind the first n bytes. It is made only where there is room and no line feed has come yet, so the program
-// never waits for more than the line.
-fn read_more(buf: &mut [u8], n: usize) -> usize
+// never waits for more than the line. An error is the read's own, and the first n bytes stay then too.
+fn read_more<R: Read>(input: &mut R, buf: &mut [u8], n: usize) -> io::Result<usize>
     requires n_in_bounds { n < length buf.old }
     requires buf_value { first_of feed (take n buf.old) ≡ n }
-    ensures result_in_bounds { n + result ≤ length buf.new }
+    ensures result_in_bounds { IfOk result (λ k. n + k ≤ length buf.new) }
     ensures buf_unchanged { take n buf.new ≡ take n buf.old }
 {
-    let got = libc::read(STDIN_FILENO, &mut buf[n..]);
-    io::count(got, &buf[n..])
+    input.read(&mut buf[n..])
 }
 
 // Reads until a line feed has come, the buffer is full or the input ends; answers the number of bytes read. The buffer holds the longest line.
-fn read_input(buf: &mut [u8]) -> usize
+// An error is that of the first read that failed, and nothing is read after it; the buffer then holds what came before.
+fn read_input<R: Read>(input: &mut R, buf: &mut [u8]) -> io::Result<usize>
     requires { max_line ≤ length buf.old }
-    ensures { IsPrefixLen result buf.new }
+    ensures prefix_len { IfOk result (λ n. IsPrefixLen n buf.new) }
+    ensures err { OnErr result (length buf.new ≡ length buf.old) }
 {
     let mut n: usize = 0;
     while n < buf.len() {
-        let more = read_more(buf, n);
+        let more = read_more(input, buf, n)?;
         if more == 0 {
-            return n;
+            return Ok(n);
         }
         let e = n + more;
         if fields::find(&buf[..e], n, b'\n') < e {
-            return e;
+            return Ok(e);
         }
         n = e;
     }
-    n
+    Ok(n)
 }
 
 // What is printed for a line, at the front of a buffer that holds the longest text; answers its length.
@@ -47,10 +51,10 @@ fn whole_text(bytes: &[u8], out: &mut [u8]) -> usize
     line::answer(bytes, out)
 }
 
-fn main() {
+fn main(rt: HostRuntime) -> io::Result<()> {
     let mut buf = [0u8; 16384];
-    let n = read_input(&mut buf);
+    let n = read_input(&mut rt.stdin(), &mut buf)?;
     let mut out = [0u8; 14361];
     let k = whole_text(&buf[..n], &mut out);
-    io::write_all(STDOUT_FILENO, &out[..k]);
+    rt.write_all(&out[..k])
 }

@@ -1,18 +1,30 @@
 // The replay program: reads a capture from standard input and prints the totals of its drains, or its refusal.
-ghost use Rattle.std.specs.Prelude.{◌≡◌, ◌<◌, ◌≤◌, length, take};
-ghost use Rattle.io.specs.Counts.{IsPrefixLen};
+#![tactic(auto)]
+
+ghost use Rattle.std.specs.Prelude.{◌≡◌, ◌<◌, ◌≤◌, length, take, IfOk, OnErr};
+ghost use Rattle.polar_replay.specs.Counts.{IsPrefixLen};
 ghost use Rattle.model.specs.Captures.{max_capture};
 ghost use Rattle.replay.specs.Program.{replay_text, max_replay};
 
-use libc::{STDIN_FILENO, STDOUT_FILENO};
+use std::io;
+use std::io::Read;
 
 // Reads until the input ends or the buffer is full; answers the number of bytes read. The buffer holds more than a capture may have, so that
-// a longer input is noticed.
-fn read_input(buf: &mut [u8]) -> usize
+// a longer input is noticed. An error is that of the first read that failed, and nothing is read after it; the buffer then holds what came before.
+fn read_input<R: Read>(input: &mut R, buf: &mut [u8]) -> io::Result<usize>
     requires { max_capture < length buf.old }
-    ensures { IsPrefixLen result buf.new }
+    ensures prefix_len { IfOk result (λ n. IsPrefixLen n buf.new) }
+    ensures err { OnErr result (length buf.new ≡ length buf.old) }
 {
-    io::read_full(STDIN_FILENO, buf)
+    let mut n: usize = 0;
+    while n < buf.len() {
+        let more = input.read(&mut buf[n..])?;
+        if more == 0 {
+            return Ok(n);
+        }
+        n += more;
+    }
+    Ok(n)
 }
 
 // What is printed for a capture, at the front of a buffer that holds the longest text; answers its length.
@@ -24,10 +36,10 @@ fn whole_text(bytes: &[u8], out: &mut [u8]) -> usize
     replay::replay(bytes, out)
 }
 
-fn main() {
+fn main(rt: HostRuntime) -> io::Result<()> {
     let mut buf = [0u8; 65537];
-    let n = read_input(&mut buf);
+    let n = read_input(&mut rt.stdin(), &mut buf)?;
     let mut out = [0u8; 6720];
     let k = whole_text(&buf[..n], &mut out);
-    io::write_all(STDOUT_FILENO, &out[..k]);
+    rt.write_all(&out[..k])
 }

@@ -7,7 +7,7 @@ use test_tools::buffers::Bytes;
 use test_tools::numbers::{least, length_of, next};
 
 // A case. The numbers determine it whole.
-#[derive(Drop)]
+#[derive(Clone, Copy)]
 pub struct Case {
     // N is 2 ^ stage.
     pub stage: usize,

@@ -2,7 +2,7 @@
 use test_tools::buffers::{Bytes, draw_bytes, draw_words, same_bytes, same_words};
 use test_tools::numbers::both;
 
-#[derive(Drop)]
+#[derive(Clone, Copy)]
 pub struct Outputs {
     pub soft: [i32; 2056],
     pub hard: Bytes,

@@ -1,9 +1,10 @@
 // Cases: the text of a capture, compared with the expected one and with that of the frames decoded one by one, also in buffers that are too
 // short for it.
-ghost use Rattle.std.specs.Prelude.{◌≤◌};
+ghost use Rattle.std.specs.Prelude.{◌≤◌, IfOk};
 
 use crate::single::text_by_frames;
 use crate::texts::{FILLER, Text, lines_of, same_text, unpack};
+use std::io;
 use test_tools::buffers::{byte_at, bytes, lent_bytes};
 use test_tools::numbers::{both, least, minus, one_if};
 use test_tools::report::{end_line, print_values};
@@ -16,20 +17,28 @@ const ROOM: usize = 8192;
 const LONGEST: usize = 6720;
 
 // A call that differs: the case's number and name, the buffer, and both texts.
-fn print_mismatch(number: usize, name: &[u8], room: usize, expected: Text, got: Text) {
+fn print_mismatch(
+    rt: &impl Print,
+    number: usize,
+    name: &[u8],
+    room: usize,
+    expected: Text,
+    got: Text,
+) -> io::Result<()> {
     let e = expected.bytes;
     let g = got.bytes;
     print_values(
+        rt,
         b"mismatch: case |, buffer of ",
         [number, room, 0, 0, 0, 0, 0, 0],
-    );
-    io::write_all(1, b" bytes: ");
-    io::write_all(1, name);
-    io::write_all(1, b"\nexpected:\n");
-    io::write_all(1, bytes(&e, expected.length));
-    io::write_all(1, b"\ngot:\n");
-    io::write_all(1, bytes(&g, got.length));
-    end_line();
+    )?;
+    rt.write_all(b" bytes: ")?;
+    rt.write_all(name)?;
+    rt.write_all(b"\nexpected:\n")?;
+    rt.write_all(bytes(&e, expected.length))?;
+    rt.write_all(b"\ngot:\n")?;
+    rt.write_all(bytes(&g, got.length))?;
+    end_line(rt)
 }
 
 // The text of a capture in a buffer of so many bytes, and the bytes behind it.
@@ -48,19 +57,31 @@ fn cut(text: Text, room: usize) -> Text {
 }
 
 // Whether a capture's text in a buffer of so many bytes is this one, as far as there is room. Prints the case if not.
-fn right(number: usize, name: &[u8], capture: &[u8], text: Text, room: usize) -> bool {
+fn right(
+    rt: &impl Print,
+    number: usize,
+    name: &[u8],
+    capture: &[u8],
+    text: Text,
+    room: usize,
+) -> io::Result<bool> {
     let expected = cut(text, room);
     let got = replayed(capture, room);
     if same_text(got, expected) {
-        return true;
+        return Ok(true);
     }
-    print_mismatch(number, name, room, expected, got);
-    false
+    print_mismatch(rt, number, name, room, expected, got)?;
+    Ok(false)
 }
 
 // Whether a capture's text is that of its frames decoded one by one. Prints the case if not.
-pub fn right_by_frames(number: usize, name: &[u8], capture: &[u8]) -> bool {
-    right(number, name, capture, text_by_frames(capture), ROOM)
+pub fn right_by_frames(
+    rt: &impl Print,
+    number: usize,
+    name: &[u8],
+    capture: &[u8],
+) -> io::Result<bool> {
+    right(rt, number, name, capture, text_by_frames(capture), ROOM)
 }
 
 fn is_refusal(text: Text) -> bool {
@@ -84,7 +105,14 @@ fn totals_number(text: Text, room: usize) -> u32 {
 }
 
 // Whether a call for the totals answers the number that is asked for, and leaves the text, or nothing where it is refused. Prints the case if not.
-fn right_totals(case: usize, name: &[u8], capture: &[u8], text: Text, room: usize) -> bool {
+fn right_totals(
+    rt: &impl Print,
+    case: usize,
+    name: &[u8],
+    capture: &[u8],
+    text: Text,
+    room: usize,
+) -> io::Result<bool> {
     let number = totals_number(text, room);
     let expected = cut(text, if number == 0 { room } else { 0 });
     let mut out = [FILLER; 8192];
@@ -94,57 +122,70 @@ fn right_totals(case: usize, name: &[u8], capture: &[u8], text: Text, room: usiz
         length: r.length,
     };
     if both(r.number == number, same_text(got, expected)) {
-        return true;
+        return Ok(true);
     }
-    print_mismatch(case, name, room, expected, got);
+    print_mismatch(rt, case, name, room, expected, got)?;
     print_values(
+        rt,
         b"expected number |, got ",
         [number as usize, r.number as usize, 0, 0, 0, 0, 0, 0],
-    );
-    end_line();
-    false
+    )?;
+    end_line(rt)?;
+    Ok(false)
 }
 
 // Calls with room for every text, of which that of an accepted capture is also that of its frames.
-fn compared_whole(number: usize, name: &[u8], capture: &[u8], text: Text) -> usize
-    ensures { result ≤ 3 }
+fn compared_whole(
+    rt: &impl Print,
+    number: usize,
+    name: &[u8],
+    capture: &[u8],
+    text: Text,
+) -> io::Result<usize>
+    ensures { IfOk result (λ n. n ≤ 3) }
 {
-    let whole = right(number, name, capture, text, ROOM);
+    let whole = right(rt, number, name, capture, text, ROOM)?;
     let by_frames = if is_refusal(text) {
         true
     } else {
-        right_by_frames(number, name, capture)
+        right_by_frames(rt, number, name, capture)?
     };
-    let totals = right_totals(number, name, capture, text, LONGEST);
-    let no_room = right_totals(number, name, capture, text, LONGEST - 1);
-    one_if(both(whole, by_frames)) + one_if(totals) + one_if(no_room)
+    let totals = right_totals(rt, number, name, capture, text, LONGEST)?;
+    let no_room = right_totals(rt, number, name, capture, text, LONGEST - 1)?;
+    Ok(one_if(both(whole, by_frames)) + one_if(totals) + one_if(no_room))
 }
 
 // These, and two calls with buffers that are shorter than the text, if it is not empty.
-fn compared(number: usize, name: &[u8], capture: &[u8], text: Text) -> Count {
-    let whole = compared_whole(number, name, capture, text);
+fn compared(
+    rt: &impl Print,
+    number: usize,
+    name: &[u8],
+    capture: &[u8],
+    text: Text,
+) -> io::Result<Count> {
+    let whole = compared_whole(rt, number, name, capture, text)?;
     if text.length == 0 {
-        return Count {
+        return Ok(Count {
             cases: 1,
             right: whole,
             calls: 3,
-        };
+        });
     }
-    let shorter = right(number, name, capture, text, minus(text.length, 1));
-    let half = right(number, name, capture, text, text.length / 2);
-    Count {
+    let shorter = right(rt, number, name, capture, text, minus(text.length, 1))?;
+    let half = right(rt, number, name, capture, text, text.length / 2)?;
+    Ok(Count {
         cases: 1,
         right: whole + one_if(shorter) + one_if(half),
         calls: 5,
-    }
+    })
 }
 
 // A record is NAME|CAPTURE|TEXT.
-pub fn run_case(number: usize, record: &[u8]) -> Count {
+pub fn run_case(rt: &impl Print, number: usize, record: &[u8]) -> io::Result<Count> {
     let a = find(record, 0, b'|');
     let e = find(record, a + 1, b'|');
     let mut capture = [0u8; 65600];
     let n = unpack(part(record, a + 1, e), &mut capture);
     let text = lines_of(part(record, e + 1, record.len()));
-    compared(number, part(record, 0, a), bytes(&capture, n), text)
+    compared(rt, number, part(record, 0, a), bytes(&capture, n), text)
 }

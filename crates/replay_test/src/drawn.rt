@@ -2,6 +2,7 @@
 ghost use Rattle.std.specs.Prelude.{◌≤◌};
 
 use crate::cases::right_by_frames;
+use std::io;
 use test_tools::buffers::bytes;
 use test_tools::numbers::{case_seed, length_of, next, one_if, seed_of};
 use test_tools::tally::Count;
@@ -138,23 +139,23 @@ fn put_capture(out: &mut [u8], stage: usize, i: usize) -> usize {
     put_trailer(out, e, mask_at, count)
 }
 
-fn run_drawn(stage: usize, i: usize) -> bool {
+fn run_drawn(rt: &impl Print, stage: usize, i: usize) -> io::Result<bool> {
     let mut capture = [0u8; 65600];
     let n = put_capture(&mut capture, stage, i);
-    right_by_frames(i, b"drawn", bytes(&capture, n))
+    right_by_frames(rt, i, b"drawn", bytes(&capture, n))
 }
 
 // All drawn captures of a stage.
-pub fn run_stage(stage: usize) -> Count {
+pub fn run_stage(rt: &impl Print, stage: usize) -> io::Result<Count> {
     let mut right = 0;
     let mut i = 0;
     while i < DRAWN {
-        right += one_if(run_drawn(stage, i));
+        right += one_if(run_drawn(rt, stage, i)?);
         i += 1;
     }
-    Count {
+    Ok(Count {
         cases: DRAWN,
         right,
         calls: DRAWN,
-    }
+    })
 }

@@ -2,6 +2,7 @@
 ghost use Rattle.std.specs.Prelude.{◌<◌, ◌≤◌};
 
 use crate::texts::{FILLER, Text};
+use itoa::Buffer;
 use test_tools::buffers::{byte_at, bytes, shorts};
 use test_tools::numbers::{bit_if, least, minus, one_if, signed};
 use test_tools::texts::{part, put, put_all};
@@ -84,7 +85,7 @@ fn decode_single(mask: &[u8], plan: &[u8], frame: &[u8]) -> Single {
 
 // ---- all frames
 
-#[derive(Drop)]
+#[derive(Clone, Copy)]
 struct Totals {
     frames: [u64; 64],
     checks: [u64; 64],
@@ -136,9 +137,8 @@ fn totals_to(capture: &[u8], end: usize, mask: &[u8], plan: &[u8]) -> Totals
 // ---- their text
 
 fn put_number(out: &mut [u8], at: usize, n: u64) -> usize {
-    let mut digits = [0u8; 20];
-    let k = io::decimal(n, &mut digits);
-    put_all(out, at, &digits[..k])
+    let mut digits = Buffer::new();
+    put_all(out, at, digits.format(n).as_bytes())
 }
 
 fn put_field(out: &mut [u8], at: usize, n: u64) -> usize {

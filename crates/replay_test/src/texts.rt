@@ -10,7 +10,7 @@ use test_tools::texts::{find, number, part, put};
 pub const FILLER: u8 = b'#';
 
 // More than the longest text.
-#[derive(Drop)]
+#[derive(Clone, Copy)]
 pub struct Text {
     pub bytes: [u8; 8192],
     pub length: usize,
@@ -51,7 +51,7 @@ fn put_digits(out: &mut [u8], from: usize, digits: &[u8]) -> usize {
 }
 
 // The digits from `from` to `end`, so many times; and the place behind them in the file.
-#[derive(Drop)]
+#[derive(Clone, Copy)]
 struct Piece {
     from: usize,
     end: usize,

@@ -2,12 +2,16 @@
 // and tries its refusals.
 // Each line of the output has a group of cases, how many came out right, and how many there are. A case that does not come out right
 // is printed with its numbers: `right(file, group, index)` runs it alone.
+#![tactic(auto)]
+
 mod calls;
 mod cases;
 mod vectors;
 
 ghost use Rattle.std.specs.Prelude.{◌≤◌};
 
+use std::io;
+use test_tools::input::read_full;
 use test_tools::numbers::one_if;
 use test_tools::report::{report, shown};
 use vectors::vector_at;
@@ -47,32 +51,34 @@ fn count_of(group: usize) -> usize
     }
 }
 
-fn report_group(file: &[u8], group: usize) {
+fn report_group(rt: &impl Print, file: &[u8], group: usize) -> io::Result<()> {
     let count = count_of(group);
     let mut sum = 0;
     let mut i = 0;
     while i < count {
-        sum += one_if(shown(right(file, group, i), group, i));
+        sum += one_if(shown(rt, right(file, group, i), group, i)?);
         i += 1;
     }
     report(
+        rt,
         b"N 2: |N 4: |N 8: |N 16: |N 32: |N 64: |N 128: |N 256: |N 512: |N 1024: |llr_of: |to_llr: |refusals: |lengths: ",
         group,
         sum,
         count,
-    );
+    )
 }
 
-fn report_all(file: &[u8]) {
+fn report_all(rt: &impl Print, file: &[u8]) -> io::Result<()> {
     let mut group = 0;
     while group < 14 {
-        report_group(file, group);
+        report_group(rt, file, group)?;
         group += 1;
     }
+    Ok(())
 }
 
-fn main() {
+fn main(rt: HostRuntime) -> io::Result<()> {
     let mut file = [0u8; 66560];
-    io::read_full(0, &mut file);
-    report_all(&file);
+    read_full(&mut rt.stdin(), &mut file)?;
+    report_all(&rt, &file)
 }

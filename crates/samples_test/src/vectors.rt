@@ -42,7 +42,7 @@ pub fn count(file: &[u8], at: usize) -> usize
 }
 
 // VARIANCE SAMPLE MARK LLR
-#[derive(Drop)]
+#[derive(Clone, Copy)]
 pub struct Vector {
     pub channel: Channel,
     pub sample: f32,

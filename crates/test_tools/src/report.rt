@@ -1,23 +1,26 @@
 // What a test program prints: lines with a group of cases, how many came out right and how many there are, and the numbers of a case
-// that did not. Names stand in one text, with a '|' between two.
+// that did not. Names stand in one text, with a '|' between two. An error is that of the write that failed; what
+// was printed before it stays, and nothing is printed after it.
 ghost use Rattle.std.specs.Prelude.{◌+◌, ◌≤◌, length};
 
 use crate::texts::{find, part};
+use std::io;
 
-pub fn print_number(name: &[u8], n: usize) {
-    io::write_all(1, name);
-    io::print_decimal(1, n as u64);
+pub fn print_number(rt: &impl Print, name: &[u8], n: usize) -> io::Result<()> {
+    rt.write_all(name)?;
+    print!(rt; "{n}")
 }
 
-pub fn end_line() {
-    io::write_all(1, b"\n");
+pub fn end_line(rt: &impl Print) -> io::Result<()> {
+    rt.write_all(b"\n")
 }
 
 // The number after the name at a place, if there is one.
-fn print_named(names: &[u8], at: usize, n: usize) {
+fn print_named(rt: &impl Print, names: &[u8], at: usize, n: usize) -> io::Result<()> {
     if at < names.len() {
-        print_number(part(names, at, find(names, at, b'|')), n);
+        print_number(rt, part(names, at, find(names, at, b'|')), n)?;
     }
+    Ok(())
 }
 
 // The place of the name after the one at a place.
@@ -32,23 +35,28 @@ fn next_name(names: &[u8], at: usize) -> usize
 }
 
 // The numbers, each after its name, as many as there are names.
-pub fn print_values(names: &[u8], values: [usize; 8]) {
+pub fn print_values(rt: &impl Print, names: &[u8], values: [usize; 8]) -> io::Result<()> {
     let mut at = 0;
     let mut i = 0;
     while i < 8 {
-        print_named(names, at, values[i]);
+        print_named(rt, names, at, values[i])?;
         at = next_name(names, at);
         i += 1;
     }
+    Ok(())
 }
 
 // Answers whether a case came out right, and prints its numbers if not.
-pub fn shown(right: bool, group: usize, i: usize) -> bool {
+pub fn shown(rt: &impl Print, right: bool, group: usize, i: usize) -> io::Result<bool> {
     if !right {
-        print_values(b"mismatch: group |, index ", [group, i, 0, 0, 0, 0, 0, 0]);
-        end_line();
+        print_values(
+            rt,
+            b"mismatch: group |, index ",
+            [group, i, 0, 0, 0, 0, 0, 0],
+        )?;
+        end_line(rt)?;
     }
-    right
+    Ok(right)
 }
 
 // The place of name k.
@@ -63,13 +71,19 @@ fn name_at(names: &[u8], k: usize) -> usize {
 }
 
 // The line of the group with name k, without its end.
-pub fn begin_report(names: &[u8], k: usize, right: usize, all: usize) {
-    print_named(names, name_at(names, k), right);
-    print_number(b" of ", all);
+pub fn begin_report(
+    rt: &impl Print,
+    names: &[u8],
+    k: usize,
+    right: usize,
+    all: usize,
+) -> io::Result<()> {
+    print_named(rt, names, name_at(names, k), right)?;
+    print_number(rt, b" of ", all)
 }
 
 // The line of the group with name k.
-pub fn report(names: &[u8], k: usize, right: usize, all: usize) {
-    begin_report(names, k, right, all);
-    end_line();
+pub fn report(rt: &impl Print, names: &[u8], k: usize, right: usize, all: usize) -> io::Result<()> {
+    begin_report(rt, names, k, right, all)?;
+    end_line(rt)
 }

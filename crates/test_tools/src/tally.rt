@@ -1,7 +1,8 @@
 // Cases of a file, in groups: how many cases and calls there were, and how many calls came out right.
 use crate::report::print_values;
+use std::io;
 
-#[derive(Drop)]
+#[derive(Clone, Copy)]
 pub struct Count {
     pub cases: usize,
     pub right: usize,
@@ -26,17 +27,18 @@ pub fn sum(a: Count, b: Count) -> Count {
 }
 
 // The line of a group, or of all.
-pub fn report_count(name: &[u8], c: Count) {
-    io::write_all(1, name);
+pub fn report_count(rt: &impl Print, name: &[u8], c: Count) -> io::Result<()> {
+    rt.write_all(name)?;
     print_values(
+        rt,
         b": | cases, | of ",
         [c.cases, c.right, c.calls, 0, 0, 0, 0, 0],
-    );
-    io::write_all(1, b" calls right\n");
+    )?;
+    rt.write_all(b" calls right\n")
 }
 
 // The counts of a group, and of all groups before it.
-#[derive(Drop)]
+#[derive(Clone, Copy)]
 pub struct Tally {
     pub group: Count,
     pub total: Count,
@@ -65,11 +67,11 @@ pub fn with_count(t: Tally, c: Count) -> Tally {
 }
 
 // The group's line is printed, and the next group begins.
-pub fn end_group(t: Tally, name: &[u8]) -> Tally {
+pub fn end_group(rt: &impl Print, t: Tally, name: &[u8]) -> io::Result<Tally> {
     let group = t.group;
-    report_count(name, group);
-    Tally {
+    report_count(rt, name, group)?;
+    Ok(Tally {
         group: zero(),
         total: sum(t.total, group),
-    }
+    })
 }
