@@ -8,12 +8,12 @@
 #include <stddef.h>
 #include <stdint.h>
 
-typedef uint64_t decode_call(size_t order, const uint8_t *mask, size_t mask_length, const uint8_t *plan,
-                             size_t plan_length, size_t sweeps, const int16_t *llrs, size_t llrs_length, int32_t *soft,
-                             size_t soft_length, uint8_t *hard, size_t hard_length, uint8_t *payload, size_t payload_length, int32_t *work,
+typedef uint64_t decode_call(const uint8_t *mask, size_t mask_length, const uint8_t *plan, size_t plan_length,
+                             size_t sweeps, const int16_t *llrs, size_t llrs_length, int32_t *soft, size_t soft_length,
+                             uint8_t *hard, size_t hard_length, uint8_t *payload, size_t payload_length, int32_t *work,
                              size_t work_length);
-typedef uint64_t encode_call(size_t order, const uint8_t *mask, size_t mask_length, const uint8_t *payload,
-                             size_t payload_length, uint8_t *word, size_t word_length);
+typedef uint64_t encode_call(const uint8_t *mask, size_t mask_length, const uint8_t *payload, size_t payload_length,
+                             uint8_t *word, size_t word_length);
 typedef uint64_t transform_call(uint8_t *bits, size_t bits_length);
 typedef uint64_t plan_call(const uint8_t *mask, size_t mask_length, uint8_t *plan, size_t plan_length,
                            uint32_t *counts);

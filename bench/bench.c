@@ -54,7 +54,6 @@ typedef struct {
     plan_choice plan;
     frozen_choice frozen;
     size_t attempts; // of flips
-    int reversed;    // in the bit-reversed order
 } test_case;
 
 // The channel of a case's frames, and the scale of their LLRs, by which the front end's noise variance is divided.
@@ -88,8 +87,6 @@ static void fail(const test_case *c, const char *what) {
     fprintf(stderr, "bench: routine %d at (%zu,%zu), %zu sweeps: %s\n", c->what, c->n, c->k, c->sweeps, what);
     exit(1);
 }
-
-static size_t order_of(const test_case *c) { return c->reversed ? RUZNAVO_BIT_REVERSED : RUZNAVO_NATURAL; }
 
 // A node of 2 positions is of a kind unless only its second is frozen.
 static void cut_pairs(size_t n) {
@@ -128,14 +125,7 @@ static void spoil_crc(uint8_t *payload, size_t k) {
     payload[k - 1] ^= 1;
 }
 
-// The LLRs of a word in natural order put in bit-reversed order.
-static void reverse_places(int16_t *values, size_t n) {
-    int16_t natural[MAX_N];
-    memcpy(natural, values, n * sizeof *natural);
-    for (size_t i = 0; i < n; i++) values[i] = natural[ref_place(REF_BIT_REVERSED, n, i)];
-}
-
-// The same frames for each case of a code, in either order: random payloads.
+// The same frames for each case of a code: random payloads.
 static void prepare(const test_case *c, channel way) {
     struct random r = random_case(1, 0);
     float noise = (float)noise_variance(c->n, c->k, way.ebn0_db);
@@ -147,10 +137,9 @@ static void prepare(const test_case *c, channel way) {
     for (int f = 0; f < FRAMES; f++) {
         for (size_t i = 0; i < c->k; i++) payloads[f][i] = random_bits(&r) >> 63;
         if (c->what == FLIP) spoil_crc(payloads[f], c->k);
-        if (plain_encode(RUZNAVO_NATURAL, mask, c->n, payloads[f], c->k, encoded[f], c->n)) fail(c, "no word");
+        if (plain_encode(mask, c->n, payloads[f], c->k, encoded[f], c->n)) fail(c, "no word");
         transmit(&r, encoded[f], as_drawn, c->n, noise, samples[f]);
         if (plain_samples(samples[f], c->n, marks, c->n, variance, llrs[f], c->n)) fail(c, "no LLRs");
-        if (c->reversed) reverse_places(llrs[f], c->n);
     }
 }
 
@@ -165,10 +154,10 @@ static void call(const test_case *c, int which, int f) {
     size_t n = c->n;
     switch (c->what) {
     case DECODE:
-        o->answer = lib->decode(order_of(c), mask, n, plan, 2 * n, c->sweeps, llrs[f], n, o->soft, n, o->hard, n, o->payload, c->k,
+        o->answer = lib->decode(mask, n, plan, 2 * n, c->sweeps, llrs[f], n, o->soft, n, o->hard, n, o->payload, c->k,
                                 o->work, RUZNAVO_MAX_WORK_WORDS);
         break;
-    case ENCODE: o->answer = lib->encode(order_of(c), mask, n, payloads[f], c->k, o->word, n); break;
+    case ENCODE: o->answer = lib->encode(mask, n, payloads[f], c->k, o->word, n); break;
     case TRANSFORM: o->answer = lib->transform(o->word, n); break;
     case PLAN: o->answer = lib->plan(mask, n, o->plan, 2 * n, o->counts); break;
     case SAMPLES:
@@ -182,7 +171,7 @@ static void call(const test_case *c, int which, int f) {
         break;
     case CHAIN:
         lib->samples(samples[f], n, marks, n, variance, o->llrs, n);
-        o->answer = lib->decode(order_of(c), mask, n, plan, 2 * n, c->sweeps, o->llrs, n, o->soft, n, o->hard, n, o->payload, c->k,
+        o->answer = lib->decode(mask, n, plan, 2 * n, c->sweeps, o->llrs, n, o->soft, n, o->hard, n, o->payload, c->k,
                                 o->work, RUZNAVO_MAX_WORK_WORDS);
         break;
     }
@@ -284,7 +273,7 @@ static void decode_table(void) {
     if (!counting) puts("   proved/plain  proved/SSE2");
     for (int i = 0; i < 2 * PLANS * CODES; i++) {
         const size_t *code = codes[i / (2 * PLANS)];
-        test_case c = {DECODE, code[0], code[1], i % 2 ? 4 : 1, (plan_choice)(i / 2 % PLANS), ZEROS, 0, 0};
+        test_case c = {DECODE, code[0], code[1], i % 2 ? 4 : 1, (plan_choice)(i / 2 % PLANS), ZEROS, 0};
         double mean[LIBRARIES];
         if (!counting) printf("(%4zu,%3zu) %-10s %4zu", c.n, c.k, plan_names[c.plan], c.sweeps);
         run_case(&c, mean);
@@ -310,33 +299,10 @@ static void ones_table(void) {
     if (!counting) puts("   to 1 / to 0: proved, plain");
     for (int i = 0; i < CODES; i++) {
         size_t n = codes[i][0], k = codes[i][1];
-        ones_rows("planner's, 1", (test_case){DECODE, n, k, 1, PLANNERS, ZEROS, 0, 0});
-        ones_rows("planner's, 4", (test_case){DECODE, n, k, 4, PLANNERS, ZEROS, 0, 0});
-        ones_rows("leaf-only, 1", (test_case){DECODE, n, k, 1, LEAVES, ZEROS, 0, 0});
-        ones_rows("encoder", (test_case){ENCODE, n, k, 0, PLANNERS, ZEROS, 0, 0});
-    }
-}
-
-// Two rows: of a case in the natural order, and of the same in the bit-reversed one.
-static void order_rows(const char *label, test_case c) {
-    double natural[LIBRARIES], reversed[LIBRARIES];
-    if (!counting) printf("(%4zu,%3zu) %-15s", c.n, c.k, label);
-    run_case(&c, natural);
-    if (!counting) printf("\n%-26s", "    bit-reversed");
-    c.reversed = 1;
-    run_case(&c, reversed);
-    if (!counting)
-        printf("   %12.2f %12.2f\n", reversed[PROVED] / natural[PROVED], reversed[PLAIN] / natural[PLAIN]), fflush(stdout);
-}
-
-static void order_table(void) {
-    heading("Natural and bit-reversed order: decoder and encoder", "code       plan, sweeps");
-    if (!counting) puts("   reversed / natural: proved, plain");
-    for (int i = 0; i < CODES; i++) {
-        size_t n = codes[i][0], k = codes[i][1];
-        order_rows("planner's, 1", (test_case){DECODE, n, k, 1, PLANNERS, ZEROS, 0, 0});
-        order_rows("planner's, 4", (test_case){DECODE, n, k, 4, PLANNERS, ZEROS, 0, 0});
-        order_rows("encoder", (test_case){ENCODE, n, k, 0, PLANNERS, ZEROS, 0, 0});
+        ones_rows("planner's, 1", (test_case){DECODE, n, k, 1, PLANNERS, ZEROS, 0});
+        ones_rows("planner's, 4", (test_case){DECODE, n, k, 4, PLANNERS, ZEROS, 0});
+        ones_rows("leaf-only, 1", (test_case){DECODE, n, k, 1, LEAVES, ZEROS, 0});
+        ones_rows("encoder", (test_case){ENCODE, n, k, 0, PLANNERS, ZEROS, 0});
     }
 }
 
@@ -347,7 +313,7 @@ static void other_table(void) {
             "routine    code");
     if (!counting) puts("   proved/plain");
     for (int i = 0; i < 7 * CODES; i++) {
-        test_case c = {(routine)(ENCODE + i / CODES), codes[i % CODES][0], codes[i % CODES][1], 0, PLANNERS, ZEROS, 0, 0};
+        test_case c = {(routine)(ENCODE + i / CODES), codes[i % CODES][0], codes[i % CODES][1], 0, PLANNERS, ZEROS, 0};
         double mean[LIBRARIES];
         if (!counting) printf("%-10s (%4zu,%3zu)%5s", names[c.what], c.n, c.k, "");
         run_case(&c, mean);
@@ -371,7 +337,7 @@ static void flip_table(void) {
     heading("Flip attempts", "code       sweeps attempts");
     if (!counting) puts("   proved/SSE2   ns a pass: proved, SSE2");
     for (int i = 0; i < 6 * CODES; i++) {
-        test_case c = {FLIP, codes[i / 6][0], codes[i / 6][1], i % 2 ? 4 : 1, PLANNERS, ZEROS, attempts[i % 6 / 2], 0};
+        test_case c = {FLIP, codes[i / 6][0], codes[i / 6][1], i % 2 ? 4 : 1, PLANNERS, ZEROS, attempts[i % 6 / 2]};
         double mean[LIBRARIES], passes = 0;
         if (!counting) printf("(%4zu,%3zu) %6zu %8zu", c.n, c.k, c.sweeps, c.attempts);
         run_case(&c, mean);
@@ -387,7 +353,7 @@ static void chain_table(void) {
     heading("Chain: front end and decoder, planner's plan", "code             sweeps");
     if (!counting) puts("   proved/plain   frames a second   Mbit of payload a second");
     for (int i = 0; i < 2 * CODES; i++) {
-        test_case c = {CHAIN, codes[i / 2][0], codes[i / 2][1], i % 2 ? 4 : 1, PLANNERS, ZEROS, 0, 0};
+        test_case c = {CHAIN, codes[i / 2][0], codes[i / 2][1], i % 2 ? 4 : 1, PLANNERS, ZEROS, 0};
         double mean[LIBRARIES];
         if (!counting) printf("(%4zu,%3zu) %-10s %4zu", c.n, c.k, "", c.sweeps);
         run_case(&c, mean);
@@ -404,7 +370,7 @@ static void word_table(void) {
     if (!counting) puts("   proved/plain");
     for (int i = 0; i < 2 * MAX_STAGE; i++) {
         size_t n = (size_t)2 << i % MAX_STAGE;
-        test_case c = {i < MAX_STAGE ? TRANSFORM : ENCODE, n, n / 2, 0, PLANNERS, ZEROS, 0, 0};
+        test_case c = {i < MAX_STAGE ? TRANSFORM : ENCODE, n, n / 2, 0, PLANNERS, ZEROS, 0};
         double mean[LIBRARIES];
         if (!counting) printf("%-10s %4zu%11s", names[i / MAX_STAGE], n, "");
         run_case(&c, mean);
@@ -417,7 +383,7 @@ static void growth_table(void) {
     if (!counting) puts("   ns / (N log2 N): proved, plain, SSE2");
     for (int stage = 1; stage <= MAX_STAGE; stage++) {
         size_t n = (size_t)1 << stage;
-        test_case c = {DECODE, n, n / 2, 1, PLANNERS, ZEROS, 0, 0};
+        test_case c = {DECODE, n, n / 2, 1, PLANNERS, ZEROS, 0};
         double mean[LIBRARIES], steps = (double)n * stage;
         if (!counting) printf("%-26zu", n);
         run_case(&c, mean);
@@ -434,7 +400,7 @@ static void replay_table(void) {
          "                                         ns a frame\n"
          "N                sweeps   frames    replay   decodes   replay/decodes");
     for (int i = 0; i < 4; i++) {
-        test_case c = {DECODE, i < 2 ? 1024 : 2, i < 2 ? 512 : 1, i % 2 ? 4 : 1, PLANNERS, ZEROS, 0, 0};
+        test_case c = {DECODE, i < 2 ? 1024 : 2, i < 2 ? 512 : 1, i % 2 ? 4 : 1, PLANNERS, ZEROS, 0};
         prepare(&c, noisy);
         compare_replay(mask, c.n, (unsigned)c.sweeps, llrs[0], MAX_N, FRAMES);
         prepare(&c, clear);
@@ -452,7 +418,6 @@ int main(int count, char **words) {
             return fprintf(stderr, "bench: %s misses a test\n", libraries[which].name), 1;
     decode_table();
     ones_table();
-    order_table();
     chain_table();
     other_table();
     word_table();

@@ -1,6 +1,5 @@
 // Encoder, transform, planner, front end, masks and decoder in plain C, as one would write them without intrinsics.
 #include "baseline.h"
-#include "orders.h"
 #include "flips.h"
 #include "kinds.h"
 #include "slips.h"
@@ -53,9 +52,8 @@ static int known_kind(const uint8_t *mask, size_t size) {
 static uint32_t edge_cycles(int left, int right) { return 2 + (left > RATE_1 ? 2 : 0) + (right > RATE_1 ? 2 : 0); }
 
 // Encoder.
-uint64_t plain_encode(size_t order, const uint8_t *mask, size_t n, const uint8_t *payload, size_t payload_length,
-                      uint8_t *word, size_t word_length) {
-    if (order != 1 && order != 2) return 21;
+uint64_t plain_encode(const uint8_t *mask, size_t n, const uint8_t *payload, size_t payload_length, uint8_t *word,
+                      size_t word_length) {
     if (!exponent_of(n)) return 1;
     uint8_t largest = largest_byte(mask, n);
     if (largest > 2) return 2;
@@ -69,10 +67,6 @@ uint64_t plain_encode(size_t order, const uint8_t *mask, size_t n, const uint8_t
     if (f.any)
         for (size_t i = 0; i < n; i++) word[i] |= f.word[i];
     transform(word, n);
-    if (order == 2) return 0;
-    uint8_t natural[1024];
-    memcpy(natural, word, n);
-    for (size_t i = 0, j = 0; i < n; j = place_after(j, n), i++) word[i] = natural[j];
     return 0;
 }
 
@@ -421,7 +415,7 @@ static int read_off(const uint8_t *mask, size_t n, const uint8_t *hard, uint8_t 
     return !wrong;
 }
 
-static uint64_t decode_natural(const uint8_t *mask, size_t n, const uint8_t *plan, size_t plan_length, size_t sweeps,
+uint64_t plain_decode(const uint8_t *mask, size_t n, const uint8_t *plan, size_t plan_length, size_t sweeps,
                       const int16_t *llrs, size_t llrs_length, int32_t *soft, size_t soft_length, uint8_t *hard,
                       size_t hard_length, uint8_t *payload, size_t payload_length, int32_t *work, size_t work_length) {
     int t = exponent_of(n);
@@ -448,14 +442,6 @@ static uint64_t decode_natural(const uint8_t *mask, size_t n, const uint8_t *pla
     flip_bits(&f, hard, n);
     memset(work, 0, words * sizeof *work);
     return 256 * (uint64_t)cycles * sweeps + (check << 40) + (undecided << 41);
-}
-
-uint64_t plain_decode(size_t order, const uint8_t *mask, size_t mask_length, const uint8_t *plan, size_t plan_length,
-                      size_t sweeps, const int16_t *llrs, size_t llrs_length, int32_t *soft, size_t soft_length,
-                      uint8_t *hard, size_t hard_length, uint8_t *payload, size_t payload_length, int32_t *work,
-                      size_t work_length) {
-    return decode_in_order(decode_natural, order, mask, mask_length, plan, plan_length, sweeps, llrs, llrs_length, soft,
-                           soft_length, hard, hard_length, payload, payload_length, work, work_length);
 }
 
 // Lines of one code, for square frames.

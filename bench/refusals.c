@@ -9,7 +9,7 @@ enum { N = 8, K = 4, WORDS = N * 6 };
 typedef struct {
     uint8_t mask[N], plan[2 * N];
     int16_t llrs[N];
-    size_t order, n, plan_length, sweeps, llrs_length, soft_length, hard_length, payload_length, work_length;
+    size_t n, plan_length, sweeps, llrs_length, soft_length, hard_length, payload_length, work_length;
 } decode_arguments;
 
 typedef struct {
@@ -19,12 +19,12 @@ typedef struct {
 
 // Mask 12101000, cut at its two halves.
 static const decode_arguments accepted = {
-    {1, 2, 1, 0, 1, 0, 0, 0}, {0, 0, 1, 1}, {3, -2, 5, 1, 4, -6, 2, -1}, 2, N, 2 * N, 1, N, N, N, K, WORDS,
+    {1, 2, 1, 0, 1, 0, 0, 0}, {0, 0, 1, 1}, {3, -2, 5, 1, 4, -6, 2, -1}, N, 2 * N, 1, N, N, N, K, WORDS,
 };
 
 static uint64_t call(decode_call *decode, const decode_arguments *a, buffers *b) {
-    return decode(a->order, a->mask, a->n, a->plan, a->plan_length, a->sweeps, a->llrs, a->llrs_length, b->soft,
-                  a->soft_length, b->hard, a->hard_length, b->payload, a->payload_length, b->work, a->work_length);
+    return decode(a->mask, a->n, a->plan, a->plan_length, a->sweeps, a->llrs, a->llrs_length, b->soft, a->soft_length,
+                  b->hard, a->hard_length, b->payload, a->payload_length, b->work, a->work_length);
 }
 
 // Damages the call in one way; the number that is due, or 0 past the last way.
@@ -46,26 +46,20 @@ static uint64_t damage(decode_arguments *a, int way) {
     case 13: a->hard_length = N - 1; return 11;
     case 14: a->payload_length = K - 1; return 11;
     case 15: a->work_length = WORDS - 1; return 12;
-    case 16: a->order = 0; return 21;
-    case 17: a->order = 3, a->n = N - 1; return 21;
     default: return 0;
     }
 }
 
-static int refuses_in(decode_call *decode, size_t order) {
+int refuses_rightly(decode_call *decode) {
     decode_arguments a = accepted;
     buffers before, after;
     memset(&before, 85, sizeof before);
-    a.order = order;
     if (call(decode, &a, &after) & 255) return 0;
     for (int way = 0;; way++) {
         a = accepted;
-        a.order = order;
         after = before;
         uint64_t number = damage(&a, way);
         if (number == 0) return 1;
         if (call(decode, &a, &after) != number || memcmp(&after, &before, sizeof after)) return 0;
     }
 }
-
-int refuses_rightly(decode_call *decode) { return refuses_in(decode, 1) && refuses_in(decode, 2); }

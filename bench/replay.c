@@ -36,7 +36,7 @@ double now(void) {
 static const int16_t *llrs_of(const replay_case *c, size_t f) { return c->llrs + f % c->different * c->stride; }
 
 static uint64_t decode(const replay_case *c, size_t f) {
-    return ruznavo_decode(RUZNAVO_NATURAL, c->mask, c->n, c->plan, 2 * c->n, c->sweeps, llrs_of(c, f), c->n, soft, c->n, hard, c->n,
+    return ruznavo_decode(c->mask, c->n, c->plan, 2 * c->n, c->sweeps, llrs_of(c, f), c->n, soft, c->n, hard, c->n,
                           payload, c->n, work, RUZNAVO_MAX_WORK_WORDS);
 }
 

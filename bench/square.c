@@ -69,7 +69,7 @@ static uint64_t square(const test_case *c, int way, int f, size_t half_iteration
 static uint64_t decode_lines(const test_case *c, int f) {
     uint64_t cycles = 0;
     for (size_t line = 0; line < HALF_ITERATIONS * c->n; line++) {
-        uint64_t answer = ruznavo_decode(RUZNAVO_NATURAL, mask, c->n, plan, 2 * c->n, 1, inputs[f][line], c->n, soft,
+        uint64_t answer = ruznavo_decode(mask, c->n, plan, 2 * c->n, 1, inputs[f][line], c->n, soft,
                                          c->n, hard, c->n, payload, c->k, work, RUZNAVO_WORK_WORDS(LONGEST));
         cycles += ruznavo_cycles(answer);
     }

@@ -1,6 +1,5 @@
 // The decoder with SSE2 intrinsics. The plan is turned once into a list of steps, which each sweep goes through.
 #include "baseline.h"
-#include "orders.h"
 #include "flips.h"
 #include "kinds.h"
 #include "vectors.h"
@@ -332,7 +331,7 @@ static void count_frozen(const uint8_t *mask, size_t n, uint16_t *frozen) {
     for (size_t i = 0; i < n; i++) frozen[i + 1] = count = (uint16_t)(count + mask[i]);
 }
 
-static uint64_t decode_natural(const uint8_t *mask, size_t n, const uint8_t *plan, size_t plan_length, size_t sweeps,
+uint64_t sse2_decode(const uint8_t *mask, size_t n, const uint8_t *plan, size_t plan_length, size_t sweeps,
                      const int16_t *llrs, size_t llrs_length, int32_t *soft, size_t soft_length, uint8_t *hard,
                      size_t hard_length, uint8_t *payload, size_t payload_length, int32_t *work, size_t work_length) {
     if (n < 2 || n > 1024 || (n & (n - 1))) return 1;
@@ -363,12 +362,4 @@ static uint64_t decode_natural(const uint8_t *mask, size_t n, const uint8_t *pla
     flip_bits(&f, hard, n);
     memset(work, 0, words * sizeof *work);
     return 256 * (uint64_t)b.cycles * sweeps + (check << 40) + (undecided << 41);
-}
-
-uint64_t sse2_decode(size_t order, const uint8_t *mask, size_t mask_length, const uint8_t *plan, size_t plan_length,
-                      size_t sweeps, const int16_t *llrs, size_t llrs_length, int32_t *soft, size_t soft_length,
-                      uint8_t *hard, size_t hard_length, uint8_t *payload, size_t payload_length, int32_t *work,
-                      size_t work_length) {
-    return decode_in_order(decode_natural, order, mask, mask_length, plan, plan_length, sweeps, llrs, llrs_length, soft,
-                           soft_length, hard, hard_length, payload, payload_length, work, work_length);
 }

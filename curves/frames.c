@@ -39,7 +39,7 @@ void read_code(code *c, const char *path) {
 struct random frames_at(double ebn0_db, uint64_t seed) { return random_case(seed, (uint64_t)llround(1000 * ebn0_db)); }
 
 static void encode(const code *c, const uint8_t *payload, uint8_t *word) {
-    if (ruznavo_encode(RUZNAVO_NATURAL, c->mask, c->n, payload, c->k, word, c->n)) fail("the encoder turned a payload down");
+    if (ruznavo_encode(c->mask, c->n, payload, c->k, word, c->n)) fail("the encoder turned a payload down");
 }
 
 void draw_bits(struct random *r, uint8_t *bits, size_t count) {
@@ -77,7 +77,7 @@ void make_llrs(const code *c, const frame *f, float scale, int16_t *llrs) {
 
 void decode(const code *c, const int16_t *llrs, size_t sweeps, decoded *d) {
     static int32_t work[RUZNAVO_MAX_WORK_WORDS];
-    uint64_t answer = ruznavo_decode(RUZNAVO_NATURAL, c->mask, c->n, c->plan, 2 * c->n, sweeps, llrs, c->n, d->soft, c->n, d->hard, c->n,
+    uint64_t answer = ruznavo_decode(c->mask, c->n, c->plan, 2 * c->n, sweeps, llrs, c->n, d->soft, c->n, d->hard, c->n,
                                      d->payload, c->k, work, RUZNAVO_MAX_WORK_WORDS);
     if (ruznavo_number(answer)) fail("the decoder turned a frame down");
     d->frozen_check = (int)ruznavo_check(answer);

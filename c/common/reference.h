@@ -45,11 +45,7 @@ void ref_scan(const uint8_t *mask, size_t N, const int16_t *llrs, size_t sweeps,
 int ref_samples(const float *samples, size_t N, const uint8_t *marks, size_t marks_length, float variance,
                 int16_t *llrs, size_t room);
 
-/* The word's place at place i in an order, 1 or 2. */
-enum { REF_BIT_REVERSED = 1, REF_NATURAL = 2 };
-size_t ref_place(size_t order, size_t N, size_t i);
-
-int ref_encode(size_t order, const uint8_t *mask, size_t N, const uint8_t *payload, size_t payload_length, uint8_t *word,
+int ref_encode(const uint8_t *mask, size_t N, const uint8_t *payload, size_t payload_length, uint8_t *word,
                size_t room);
 
 /* The mask by row weight. */
@@ -67,7 +63,7 @@ int ref_plan(const uint8_t *mask, size_t N, uint8_t *plan, size_t room, uint32_t
 int ref_check_plan(const uint8_t *mask, size_t N, const uint8_t *plan, size_t plan_length, uint32_t *cycles);
 
 /* work is only measured and cleared; undecided is the number of hard bits that are 2. */
-int ref_decode(size_t order, const uint8_t *mask, size_t N, const uint8_t *plan, size_t plan_length, size_t sweeps,
+int ref_decode(const uint8_t *mask, size_t N, const uint8_t *plan, size_t plan_length, size_t sweeps,
                const int16_t *llrs, size_t llrs_length, int32_t *soft, size_t soft_room, uint8_t *hard,
                size_t hard_room, uint8_t *payload, size_t payload_room, int32_t *work, size_t words, uint32_t *cycles,
                int *check, size_t *undecided);

@@ -81,7 +81,7 @@ int main(void) {
     printf("\n");
 
     for (size_t i = 0; i < K; i++) payload[i] = random_bits() >> 8 & 1;
-    accepted("encode", ruznavo_encode(RUZNAVO_NATURAL, mask, N, payload, K, word, N));
+    accepted("encode", ruznavo_encode(mask, N, payload, K, word, N));
     send_word();
     /* The variance divided by 256: LLRs and soft values on a larger scale lose less by rounding (ruznavo.h). */
     accepted("samples", ruznavo_samples(samples, N, marks, N, variance / 256, llrs, N));
@@ -89,7 +89,7 @@ int main(void) {
     for (size_t i = 0; i < N; i++) hard[i] = llrs[i] < 0;
     printf("received: %d of %d bits of the word wrong before decoding\n", different(hard, word, N), N);
 
-    uint64_t answer = accepted("decode", ruznavo_decode(RUZNAVO_NATURAL, mask, N, plan, sizeof plan, SWEEPS, llrs, N, soft, N, hard, N,
+    uint64_t answer = accepted("decode", ruznavo_decode(mask, N, plan, sizeof plan, SWEEPS, llrs, N, soft, N, hard, N,
                                                         decoded, K, work, sizeof work / sizeof *work));
     /* Of a word with an undecided bit there is no payload: its bytes are RUZNAVO_UNDECIDED. */
     if (ruznavo_undecided(answer)) {

@@ -24,7 +24,6 @@ SENT, PUNCTURED, SHORTENED = 0, 1, 2  # marks, as in ruznavo.h
 UNFROZEN, FROZEN_ZERO, FROZEN_ONE = 0, 1, 2  # mask bytes
 LARGEST, CERTAIN, UNDECIDED = 32767, 2**31 - 1, 2  # LLR, soft value, bit; certain of a 1 is -CERTAIN
 KINDS = 8
-NATURAL = 2  # order
 
 Frame = collections.namedtuple("Frame", "word llrs soft hard check undecided right")
 
@@ -39,9 +38,9 @@ def load(path):
     size = ctypes.c_size_t
     types = {
         "samples": [floats, size, bits, size, ctypes.c_float, shorts, size],
-        "encode": [size, bits, size, bits, size, bits, size],
+        "encode": [bits, size, bits, size, bits, size],
         "plan": [bits, size, bits, size, counts],
-        "decode": [size, bits, size, bits, size, size, shorts, size, words, size, bits, size, bits, size, words, size],
+        "decode": [bits, size, bits, size, size, shorts, size, words, size, bits, size, bits, size, words, size],
     }
     for name, arguments in types.items():
         call = getattr(library, "ruznavo_" + name)
@@ -102,7 +101,7 @@ def decode_frame(library):
     drawn = random.Random(SEED)
     mask, word, plan, counts = choose_mask(), octets([0] * N), octets([0] * 2 * N), (ctypes.c_uint32 * KINDS)()
     payload = octets([drawn.random() < 0.5 for _ in range(K)])
-    accepted("encode", library.ruznavo_encode(NATURAL, mask, N, payload, K, word, N))
+    accepted("encode", library.ruznavo_encode(mask, N, payload, K, word, N))
     samples, marks = receive(word, drawn)
     llrs = (ctypes.c_int16 * N)()
     accepted("samples", library.ruznavo_samples(samples, N, marks, N, VARIANCE / SCALE, llrs, N))
@@ -113,7 +112,7 @@ def decode_frame(library):
     answer = accepted(
         "decode",
         library.ruznavo_decode(
-            NATURAL, mask, N, plan, len(plan), SWEEPS, llrs, N, soft, N, hard, N, decoded, K, work, len(work)
+            mask, N, plan, len(plan), SWEEPS, llrs, N, soft, N, hard, N, decoded, K, work, len(work)
         ),
     )
     right = list(decoded) == list(payload)

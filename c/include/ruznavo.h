@@ -1,7 +1,7 @@
 /*
  * Ruznavo from C: min-sum SCAN decoding of polar codes with shortcut nodes.
  *
- * The library is x86-64 code with the System V calling convention. `rt staticlib ruznavo` writes it as
+ * The library is x86-64 code with the System V calling convention. `tools/static_libraries` writes it as
  * target/staticlib/libruznavo.a; `make -C c install` installs that archive, a shared object, this header and a file for
  * pkg-config. It needs memcpy and memset of the C library and nothing else. It has no writable static data, allocates
  * nothing, makes no system call and always returns, so calls may run on several threads at once as long as they do not
@@ -39,12 +39,12 @@
  * Positions frozen to one. Sender and receiver know which positions are frozen, and to what: ruznavo_encode puts the
  * known ones in, and the frozen check of a decode compares with them. Compared with a mask that has 1 in the place of
  * each 2, the same bits of every word are flipped: those where the word of the frozen values, ruznavo_transform of a
- * row that has 1 for each mask byte 2 and 0 elsewhere, put in the order, has a 1. A decode equals this: flip the signs
- * of the LLRs there, decode with that other mask, flip soft values and decided hard bits back there. So kinds of nodes,
- * plans, cycles and the distance between words are the same, and on a channel that treats both bits alike errors are as
- * frequent. How well two stations are told apart depends on where their ones stand: a one at position 0 alone flips a
- * single bit, which a decode corrects like a wrong one. RUZNAVO_SHORTENED speaks for bit 0; where frozen positions fix
- * an unsent bit to 1, its LLR is to be -32767.
+ * row that has 1 for each mask byte 2 and 0 elsewhere, has a 1. A decode equals this: flip the signs of the LLRs there,
+ * decode with that other mask, flip soft values and decided hard bits back there. So kinds of nodes, plans, cycles and
+ * the distance between words are the same, and on a channel that treats both bits alike errors are as frequent. How
+ * well two stations are told apart depends on where their ones stand: a one at position 0 alone flips a single bit,
+ * which a decode corrects like a wrong one. RUZNAVO_SHORTENED speaks for bit 0; where frozen positions fix an unsent
+ * bit to 1, its LLR is to be -32767.
  *
  * Undecided bits. An undecided bit is 2 in the hard word (RUZNAVO_UNDECIDED). One such bit leaves the whole payload
  * open: all K payload bytes are 2 then, and the frozen check is 0. ruznavo_undecided has the number of undecided bits
@@ -69,14 +69,13 @@
  *
  * Answers. Each call answers one number; the functions below take it apart. The refusal number is 0 if the call was
  * accepted. A refused call answers its number with every other result 0 and leaves every buffer as it was, the
- * workspace too. If several causes apply, the lowest number of those that the call tests is answered, but
- * RUZNAVO_BAD_ORDER before all others; the calls for masks, replay and flip attempts test in the order that is given
- * with them.
+ * workspace too. If several causes apply, the lowest number of those that the call tests is answered; the calls for
+ * masks, replay and flip attempts test in the order that is given with them.
  *
  * Stack. At N = 1024 a replay used less than 80 KB, since it holds a decode's buffers, the mask by erasure less than
- * 18 KB, the decoder less than 12 KB in either order, flip attempts less than 7.5 KB, the mask for a distance less than
- * 4.5 KB, the mask by weight and the encoder in bit-reversed order less than 2.5 KB, planner and plan check less than 2
- * KB each, the others less than 250 bytes. `make -C c` measures this (c/test/stack.c), and fails where a call uses more.
+ * 18 KB, flip attempts less than 7.5 KB, the decoder less than 5 KB, the mask for a distance less than 4.5 KB, the mask
+ * by weight less than 2.5 KB, planner and plan check less than 2 KB each, the others less than 200 bytes. `make -C c`
+ * measures this (c/test/stack.c), and fails where a call uses more.
  */
 #ifndef RUZNAVO_H
 #define RUZNAVO_H
@@ -89,10 +88,10 @@ extern "C" {
 #endif
 
 /* The version of this header and of the library that it belongs to. The shared object's name has the first number. */
-#define RUZNAVO_VERSION_MAJOR 2
-#define RUZNAVO_VERSION_MINOR 13
+#define RUZNAVO_VERSION_MAJOR 1
+#define RUZNAVO_VERSION_MINOR 12
 #define RUZNAVO_VERSION_PATCH 0
-#define RUZNAVO_VERSION "2.13.0"
+#define RUZNAVO_VERSION "1.12.0"
 
 #define RUZNAVO_MIN_N 2
 #define RUZNAVO_MAX_N 1024
@@ -125,11 +124,6 @@ extern "C" {
 
 /* Mask bytes. */
 enum { RUZNAVO_UNFROZEN = 0, RUZNAVO_FROZEN_ZERO = 1, RUZNAVO_FROZEN_ONE = 2 };
-
-/* Orders in which a word is sent. In the natural one a word is the row of bits times the polar matrix. In the
- * bit-reversed one, that of the trial series and of Arikan's first definition, place i has the word's place whose n
- * bits are i's backwards. */
-enum { RUZNAVO_BIT_REVERSED = 1, RUZNAVO_NATURAL = 2 };
 
 /* Marks of received positions. */
 enum { RUZNAVO_SENT = 0, RUZNAVO_PUNCTURED = 1, RUZNAVO_SHORTENED = 2 };
@@ -170,8 +164,7 @@ enum {
     RUZNAVO_NOTHING_WANTED = 17, /* K or the wanted distance is 0 */
     RUZNAVO_FEW_UNFROZEN = 18,   /* K below 9: no payload bit beside the CRC */
     RUZNAVO_BAD_ATTEMPTS = 19,   /* more than RUZNAVO_MAX_ATTEMPTS attempts */
-    RUZNAVO_BAD_RATE = 20,       /* the erasure rate is not strictly between 0 and 1 */
-    RUZNAVO_BAD_ORDER = 21       /* an order other than 1 and 2 */
+    RUZNAVO_BAD_RATE = 20        /* the erasure rate is not strictly between 0 and 1 */
 };
 
 /* A refusal number's cause in words, for messages. */
@@ -198,7 +191,6 @@ static inline const char *ruznavo_number_name(unsigned number) {
     case RUZNAVO_FEW_UNFROZEN: return "K below 9";
     case RUZNAVO_BAD_ATTEMPTS: return "more than 31 attempts";
     case RUZNAVO_BAD_RATE: return "erasure rate not strictly between 0 and 1";
-    case RUZNAVO_BAD_ORDER: return "order other than 1 and 2";
     default: return "unknown number";
     }
 }
@@ -249,17 +241,15 @@ uint64_t ruznavo_samples(const float *samples, size_t samples_length, const uint
 
 /*
  * Encodes a payload: its bits go to the unfrozen positions in rising order, zeros and ones to the others as the mask
- * says, and the first N bytes of word become that row times the polar matrix, in the order.
- *   order    RUZNAVO_BIT_REVERSED or RUZNAVO_NATURAL
- * Answers the number: 0, 1, 2, 3, 10, 11 or 21, which is tested first.
+ * says, and the first N bytes of word become that row times the polar matrix, in natural order.
+ * Answers the number: 0, 1, 2, 3, 10 or 11.
  */
-uint64_t ruznavo_encode(size_t order, const uint8_t *mask, size_t mask_length, const uint8_t *payload,
-                        size_t payload_length, uint8_t *word, size_t word_length);
+uint64_t ruznavo_encode(const uint8_t *mask, size_t mask_length, const uint8_t *payload, size_t payload_length,
+                        uint8_t *word, size_t word_length);
 
 /*
  * The transform in place: the row of bits is multiplied by the polar matrix, in natural order. A second transform gives
- * the bits again, so the transform of a hard word in natural order with no undecided bit is the decoded row of frozen
- * bits and payload.
+ * the bits again, so the transform of a hard word with no undecided bit is the decoded row of frozen bits and payload.
  *   bits     exactly N bytes, each taken modulo 2; all are written
  * Answers the number: 0 or 1.
  */
@@ -282,20 +272,16 @@ uint64_t ruznavo_check_plan(const uint8_t *mask, size_t mask_length, const uint8
 
 /*
  * Decodes. Every allowed plan gives the same results; plans differ in cycles and time.
- *   order    RUZNAVO_BIT_REVERSED or RUZNAVO_NATURAL: that of the LLRs, the soft values and the hard word. Mask, plan and
- *            payload have one order only.
  *   soft     the first N words are written
  *   hard     the first N bytes are written: the decided word, with RUZNAVO_UNDECIDED where a bit is undecided
  *   payload  the first K bytes are written: the decided payload, or RUZNAVO_UNDECIDED in all K if a bit of the word is
  *            undecided
  *   work     the first N(n + 3) words; what they held has no influence, and they are 0 afterwards
- * Answers the number, 0 to 7, 11, 12 or 21, which is tested first, the cycles of all sweeps, the frozen check, and the
- * number of undecided bits.
+ * Answers the number, 0 to 7, 11 or 12, the cycles of all sweeps, the frozen check, and the number of undecided bits.
  */
-uint64_t ruznavo_decode(size_t order, const uint8_t *mask, size_t mask_length, const uint8_t *plan, size_t plan_length,
-                        size_t sweeps, const int16_t *llrs, size_t llrs_length, int32_t *soft, size_t soft_length,
-                        uint8_t *hard, size_t hard_length, uint8_t *payload, size_t payload_length, int32_t *work,
-                        size_t work_length);
+uint64_t ruznavo_decode(const uint8_t *mask, size_t mask_length, const uint8_t *plan, size_t plan_length, size_t sweeps,
+                        const int16_t *llrs, size_t llrs_length, int32_t *soft, size_t soft_length, uint8_t *hard,
+                        size_t hard_length, uint8_t *payload, size_t payload_length, int32_t *work, size_t work_length);
 
 /*
  * Decodes with flip attempts (SCAN-Flip), for payloads that end with a CRC: all K bits, the first one as the highest

@@ -2,7 +2,7 @@
  * Square frames from C: words of a product code, whose rows and columns are words of one polar code, decoded by min-sum
  * SCAN of the rows and of the columns in turn.
  *
- * The library is x86-64 code with the System V calling convention. `rt staticlib ruznavo_square` writes it as
+ * The library is x86-64 code with the System V calling convention. `tools/static_libraries` writes it as
  * target/staticlib/libruznavo_square.a; `make -C c install` installs that archive and this header beside those of
  * ruznavo.h. Neither header nor library needs the other, and a program may have both. The archive defines
  * ruznavo_square and no other name. It needs memcpy and memset of the C library and nothing else. It has no writable

@@ -26,17 +26,16 @@ static int32_t soft[N], work[RUZNAVO_MAX_WORK_WORDS];
 static uint32_t counts[RUZNAVO_KINDS];
 static struct capture capture;
 static uint8_t text[RUZNAVO_MAX_REPLAY];
-static size_t order = RUZNAVO_NATURAL; /* of encoder and decoder */
 static uint64_t answer;
 
 static void none(void) { answer = 0; }
 static void call_samples(void) { answer = ruznavo_samples(samples, N, marks, N, 1.0f, llrs, N); }
-static void call_encode(void) { answer = ruznavo_encode(order, mask, N, payload, N / 2, bits, N); }
+static void call_encode(void) { answer = ruznavo_encode(mask, N, payload, N / 2, bits, N); }
 static void call_transform(void) { answer = ruznavo_transform(bits, N); }
 static void call_plan(void) { answer = ruznavo_plan(mask, N, plan, 2 * N, counts); }
 static void call_check_plan(void) { answer = ruznavo_check_plan(mask, N, plan, 2 * N); }
 static void call_decode(void) {
-    answer = ruznavo_decode(order, mask, N, plan, 2 * N, RUZNAVO_MAX_SWEEPS, llrs, N, soft, N, bits, N, payload, N, work,
+    answer = ruznavo_decode(mask, N, plan, 2 * N, RUZNAVO_MAX_SWEEPS, llrs, N, soft, N, bits, N, payload, N, work,
                             RUZNAVO_MAX_WORK_WORDS);
 }
 static void call_flip(void) {
@@ -78,9 +77,9 @@ static int measure_ones(void) {
     for (size_t i = 0; i < N; i++)
         if (mask[i] && i / 2 % 2) mask[i] = RUZNAVO_FROZEN_ONE;
     memset(payload, 0, sizeof payload);
-    int failed = measure("encode, positions frozen to 1", call_encode, 250);
+    int failed = measure("encode, positions frozen to 1", call_encode, 200);
     for (size_t i = 0; i < N; i++) llrs[i] = bits[i] ? -1 : 1;
-    failed += measure("decode, positions frozen to 1", call_decode, 12000) || ruznavo_undecided(answer) != 0;
+    failed += measure("decode, positions frozen to 1", call_decode, 5000) || ruznavo_undecided(answer) != 0;
     return failed;
 }
 
@@ -98,20 +97,9 @@ static int measure_flips(void) {
 /* Decodes with no bit undecided, and with some. */
 static int measure_decodes(void) {
     set_llrs(1);
-    int failed = measure("decode", call_decode, 12000) || ruznavo_undecided(answer) != 0;
+    int failed = measure("decode", call_decode, 5000) || ruznavo_undecided(answer) != 0;
     set_llrs(0);
-    failed += measure("decode, bits undecided", call_decode, 12000) || ruznavo_undecided(answer) == 0;
-    return failed;
-}
-
-/* Encoder and decoder in the bit-reversed order. The LLRs speak for the zero word. */
-static int measure_reversed(void) {
-    order = RUZNAVO_BIT_REVERSED;
-    memset(payload, 0, sizeof payload);
-    int failed = measure("encode, bit-reversed", call_encode, 2500);
-    set_llrs(1);
-    failed += measure("decode, bit-reversed", call_decode, 12000) || ruznavo_undecided(answer) != 0;
-    order = RUZNAVO_NATURAL;
+    failed += measure("decode, bits undecided", call_decode, 5000) || ruznavo_undecided(answer) == 0;
     return failed;
 }
 
@@ -124,11 +112,10 @@ int main(void) {
     }
     int failed = measure("samples", call_samples, 200);
     marks[0] = RUZNAVO_PUNCTURED;
-    failed += measure("samples, one not sent", call_samples, 200) + measure("encode", call_encode, 250) +
+    failed += measure("samples, one not sent", call_samples, 200) + measure("encode", call_encode, 200) +
                  measure("transform", call_transform, 200) + measure("plan", call_plan, 2000);
     leaf_plan(plan, N);
-    failed += measure("check_plan", call_check_plan, 2000) + measure_flips() + measure_decodes() + measure_reversed() +
-              measure_ones();
+    failed += measure("check_plan", call_check_plan, 2000) + measure_flips() + measure_decodes() + measure_ones();
     capture_frame(&capture, 63, RUZNAVO_MAX_SWEEPS, llrs, N);
     capture_end(&capture, mask, N);
     failed += measure("replay", call_replay, 80000) + measure("mask_by_weight", call_mask_by_weight, 2500) +

@@ -45,11 +45,11 @@ static const char *const call_names[CALLS] = {"samples", "encode", "transform", 
 /* The numbers that each call can answer, as bits. */
 static const unsigned answers[CALLS] = {
     1u << 0 | 1u << 1 | 1u << 3 | 1u << 8 | 1u << 9 | 1u << 11,
-    1u << 0 | 1u << 1 | 1u << 2 | 1u << 3 | 1u << 10 | 1u << 11 | 1u << 21,
+    1u << 0 | 1u << 1 | 1u << 2 | 1u << 3 | 1u << 10 | 1u << 11,
     1u << 0 | 1u << 1,
     1u << 0 | 1u << 1 | 1u << 2 | 1u << 11,
     1u << 0 | 1u << 1 | 1u << 2 | 1u << 5 | 1u << 6,
-    0xFFu | 1u << 11 | 1u << 12 | 1u << 21,
+    0xFFu | 1u << 11 | 1u << 12,
     1u << 0 | 1u << 1 | 1u << 2 | 1u << 4 | 1u << 7 | 1u << 11 | 1u << 14 | 1u << 15,
     1u << 0 | 1u << 1 | 1u << 11 | 1u << 16,
     1u << 0 | 1u << 1 | 1u << 11 | 1u << 16 | 1u << 17,
@@ -61,9 +61,9 @@ static const unsigned answers[CALLS] = {
 static const int least_stage_of[CALLS] = {1, 1, 1, 1, 1, 1, 1, 1, 1, 4, 1};
 
 static uint64_t seed = 1, case_number;
-enum { NUMBERS = RUZNAVO_BAD_ORDER + 1 };
+enum { NUMBERS = RUZNAVO_BAD_RATE + 1 };
 static uint64_t number_seen[CALLS][NUMBERS], stage_seen[CALLS][REF_MAX_STAGE + 1], sweeps_seen[REF_MAX_SWEEPS + 1],
-    found_seen[2], order_seen[2][2][REF_MAX_STAGE + 1]; /* of encoder and decoder */
+    found_seen[2];
 
 /* Accepted decodes by n: without an undecided bit and with one; and those without by their frozen check. */
 static uint64_t undecided_seen[2][REF_MAX_STAGE + 1], check_seen[2];
@@ -263,15 +263,6 @@ static void samples_case(struct random *r) {
     if (number == 0) stage_seen[SAMPLES][ref_exponent(count)]++;
 }
 
-/* ---- orders */
-
-static size_t drawn_order(struct random *r) { return random_chance(r, 0.5) ? RUZNAVO_BIT_REVERSED : RUZNAVO_NATURAL; }
-
-static size_t bad_order(struct random *r) {
-    static const size_t bad[] = {0, 3, 4, 257, 258, ((size_t)1 << 32) + 1, ((size_t)1 << 32) + 2, SIZE_MAX};
-    return bad[random_below(r, sizeof bad / sizeof *bad)];
-}
-
 /* ---- encoder */
 
 static void encode_case(struct random *r) {
@@ -279,12 +270,11 @@ static void encode_case(struct random *r) {
     static uint8_t payload[LONGEST];
     random_code(r, &c);
     random_bytes(r, payload, LONGEST);
-    size_t order = drawn_order(r), payload_length = c.K, room = enough(r, c.N);
-    for (int d = damages(r); d > 0; d--) switch (random_below(r, 5)) {
+    size_t payload_length = c.K, room = enough(r, c.N);
+    for (int d = damages(r); d > 0; d--) switch (random_below(r, 4)) {
         case 0: damage_mask(r, &c); break;
         case 1: payload_length = other_length(r, c.K + 1); break;
         case 2: damage_byte(r, payload, c.K, 1); break;
-        case 3: order = bad_order(r); break;
         default: room = too_short(r, c.N);
         }
     place(r, MASK, c.mask_length, 1, c.mask);
@@ -292,14 +282,11 @@ static void encode_case(struct random *r) {
     place(r, WORD, room, 1, NULL);
     static const enum slot used[] = {MASK, PAYLOAD, WORD};
     lock(used, 2, 0);
-    uint64_t answer =
-        ruznavo_encode(order, buffer(MASK), c.mask_length, buffer(PAYLOAD), payload_length, buffer(WORD), room);
+    uint64_t answer = ruznavo_encode(buffer(MASK), c.mask_length, buffer(PAYLOAD), payload_length, buffer(WORD), room);
     lock(used, 2, 1);
-    int number = ref_encode(order, twin(MASK), c.mask_length, twin(PAYLOAD), payload_length, twin(WORD), room);
+    int number = ref_encode(twin(MASK), c.mask_length, twin(PAYLOAD), payload_length, twin(WORD), room);
     compare(ENCODE, answer, answer_of(number, 0), used, 3);
-    if (number != 0) return;
-    count_mask(ENCODE, c.mask, c.mask_length);
-    order_seen[0][order - 1][ref_exponent(c.mask_length)]++;
+    if (number == 0) count_mask(ENCODE, c.mask, c.mask_length);
 }
 
 /* ---- transform */
@@ -407,7 +394,7 @@ static void noisy_llrs(struct random *r, const struct code *c, int16_t *llrs) {
     uint8_t payload[REF_MAX_N], word[REF_MAX_N];
     double v = 0.2 + 1.5 * random_uniform(r), scale = (double)((uint64_t)1 << random_below(r, 7));
     random_bytes(r, payload, c->K);
-    ref_encode(REF_NATURAL, c->mask, c->N, payload, c->K, word, c->N);
+    ref_encode(c->mask, c->N, payload, c->K, word, c->N);
     for (size_t i = 0; i < c->N; i++)
         llrs[i] = (int16_t)lround(scale * 2 * ((word[i] ? -1 : 1) + sqrt(v) * random_gauss(r)) / v);
 }
@@ -467,19 +454,18 @@ static void count_kinds(const uint8_t *mask, size_t N, const uint8_t *plan, size
 
 /* An accepted decode again, as request No. 9 also says it: the LLRs flipped where the word of the frozen values has a 1,
  * 1 in the place of each mask byte 2, soft values and decided hard bits flipped back. */
-static void compare_flipped(size_t order, const uint8_t *mask, size_t N, const uint8_t *plan, size_t sweeps,
-                            const int16_t *llrs, uint64_t answer) {
+static void compare_flipped(const uint8_t *mask, size_t N, const uint8_t *plan, size_t sweeps, const int16_t *llrs,
+                            uint64_t answer) {
     static int32_t soft[REF_MAX_N], work[RUZNAVO_MAX_WORK_WORDS];
     int16_t turned[REF_MAX_N];
-    uint8_t known[REF_MAX_N], word[REF_MAX_N], zeros[REF_MAX_N], hard[REF_MAX_N], payload[REF_MAX_N];
-    ref_known_word(mask, known, N);
+    uint8_t word[REF_MAX_N], zeros[REF_MAX_N], hard[REF_MAX_N], payload[REF_MAX_N];
+    ref_known_word(mask, word, N);
     for (size_t i = 0; i < N; i++) {
         zeros[i] = mask[i] != RUZNAVO_UNFROZEN;
-        word[i] = known[ref_place(order, N, i)];
         turned[i] = (int16_t)(word[i] ? -llrs[i] : llrs[i]);
     }
-    uint64_t flipped = ruznavo_decode(order, zeros, N, plan, 2 * N, sweeps, turned, N, soft, N, hard, N, payload, N,
-                                      work, RUZNAVO_MAX_WORK_WORDS);
+    uint64_t flipped = ruznavo_decode(zeros, N, plan, 2 * N, sweeps, turned, N, soft, N, hard, N, payload, N, work,
+                                      RUZNAVO_MAX_WORK_WORDS);
     for (size_t i = 0; i < N; i++) {
         if (word[i]) soft[i] = -soft[i];
         if (word[i] && hard[i] != RUZNAVO_UNDECIDED) hard[i] ^= 1;
@@ -491,8 +477,8 @@ static void compare_flipped(size_t order, const uint8_t *mask, size_t N, const u
 /* An accepted decode again, as request No. 10 says it: the LLRs negated where a word has a 1 that the mask encodes with
  * zeros at the frozen positions. Soft values are negated there, decided bits flipped, also those of the payload where the
  * word's payload has a 1; the answer is the same, and no soft value there is certain. */
-static void compare_negated(struct random *r, size_t order, const uint8_t *mask, size_t N, const uint8_t *plan,
-                            size_t sweeps, const int16_t *llrs, uint64_t answer) {
+static void compare_negated(struct random *r, const uint8_t *mask, size_t N, const uint8_t *plan, size_t sweeps,
+                            const int16_t *llrs, uint64_t answer) {
     static int32_t soft[REF_MAX_N], work[RUZNAVO_MAX_WORK_WORDS];
     int16_t negated[REF_MAX_N];
     uint8_t zeros[REF_MAX_N], bits[REF_MAX_N], word[REF_MAX_N], hard[REF_MAX_N], payload[REF_MAX_N];
@@ -500,9 +486,9 @@ static void compare_negated(struct random *r, size_t order, const uint8_t *mask,
     size_t K = ref_unfrozen(mask, N);
     for (size_t i = 0; i < N; i++) zeros[i] = mask[i] != RUZNAVO_UNFROZEN;
     random_bytes(r, bits, K);
-    ref_encode(order, zeros, N, bits, K, word, N);
+    ref_encode(zeros, N, bits, K, word, N);
     for (size_t i = 0; i < N; i++) negated[i] = (int16_t)(word[i] ? -llrs[i] : llrs[i]);
-    if (ruznavo_decode(order, mask, N, plan, 2 * N, sweeps, negated, N, soft, N, hard, N, payload, K, work,
+    if (ruznavo_decode(mask, N, plan, 2 * N, sweeps, negated, N, soft, N, hard, N, payload, K, work,
                        RUZNAVO_MAX_WORK_WORDS) != answer)
         stop("a negated frame's answer");
     for (size_t i = 0; i < N; i++) {
@@ -529,19 +515,15 @@ static void count_decode(const struct code *c, const struct plan *p, size_t swee
 static void decode_case(struct random *r) {
     static struct code c;
     static struct plan p;
-    static int16_t values[LONGEST], llrs[LONGEST];
+    static int16_t llrs[LONGEST];
     random_code(r, &c);
     any_plan(r, &c, &p);
-    random_llrs(r, &c, values);
-    size_t order = drawn_order(r), sweeps = (size_t)random_from(r, 1, random_chance(r, 0.2) ? RUZNAVO_MAX_SWEEPS : 3);
-    if (random_chance(r, 0.2)) make_tie(r, &c, sweeps, values);
-    for (size_t i = 0; i < LONGEST; i++) llrs[i] = values[i < c.N ? ref_place(order, c.N, i) : i];
+    random_llrs(r, &c, llrs);
+    size_t sweeps = (size_t)random_from(r, 1, random_chance(r, 0.2) ? RUZNAVO_MAX_SWEEPS : 3);
+    if (random_chance(r, 0.2)) make_tie(r, &c, sweeps, llrs);
     struct rooms m = {
         c.N, sweeps, enough(r, c.N), enough(r, c.N), enough(r, c.K), enough(r, RUZNAVO_WORK_WORDS(c.N))};
-    for (int d = damages(r); d > 0; d--) {
-        if (random_chance(r, 0.1)) order = bad_order(r);
-        else damage_decode(r, &c, &p, llrs, &m);
-    }
+    for (int d = damages(r); d > 0; d--) damage_decode(r, &c, &p, llrs, &m);
     place(r, MASK, c.mask_length, 1, c.mask);
     place(r, PLAN_BYTES, p.length, 1, p.bytes);
     place(r, LLRS, m.llrs, sizeof(int16_t), llrs);
@@ -555,19 +537,18 @@ static void decode_case(struct random *r) {
     size_t undecided;
     lock(used, 3, 0);
     uint64_t answer =
-        ruznavo_decode(order, buffer(MASK), c.mask_length, buffer(PLAN_BYTES), p.length, m.sweeps, buffer(LLRS), m.llrs,
+        ruznavo_decode(buffer(MASK), c.mask_length, buffer(PLAN_BYTES), p.length, m.sweeps, buffer(LLRS), m.llrs,
                        buffer(SOFT), m.soft, buffer(HARD), m.hard, buffer(PAYLOAD), m.payload, buffer(WORK), m.work);
     lock(used, 3, 1);
-    int number = ref_decode(order, twin(MASK), c.mask_length, twin(PLAN_BYTES), p.length, m.sweeps, twin(LLRS), m.llrs,
+    int number = ref_decode(twin(MASK), c.mask_length, twin(PLAN_BYTES), p.length, m.sweeps, twin(LLRS), m.llrs,
                             twin(SOFT), m.soft, twin(HARD), m.hard, twin(PAYLOAD), m.payload, twin(WORK), m.work,
                             &cycles, &check, &undecided);
     compare(DECODE, answer, answer_of(number, cycles) + ((uint64_t)check << 40) + ((uint64_t)undecided << 41), used, 7);
     if (ruznavo_check(answer) != (unsigned)check || ruznavo_undecided(answer) != undecided) stop("the answer's parts");
     if (number != 0) return;
     count_decode(&c, &p, m.sweeps, check, undecided);
-    order_seen[1][order - 1][ref_exponent(c.mask_length)]++;
-    if (has_ones(c.mask, c.mask_length)) compare_flipped(order, c.mask, c.mask_length, p.bytes, m.sweeps, llrs, answer);
-    compare_negated(r, order, c.mask, c.mask_length, p.bytes, m.sweeps, llrs, answer);
+    if (has_ones(c.mask, c.mask_length)) compare_flipped(c.mask, c.mask_length, p.bytes, m.sweeps, llrs, answer);
+    compare_negated(r, c.mask, c.mask_length, p.bytes, m.sweeps, llrs, answer);
 }
 
 /* ---- flip attempts */
@@ -589,7 +570,7 @@ static void flip_llrs(struct random *r, const struct code *c, int16_t *llrs) {
     double v = 0.1 + 0.9 * random_uniform(r), scale = (double)((uint64_t)1 << random_below(r, 7));
     random_bytes(r, payload, c->K);
     ref_crc_append(payload, c->K);
-    ref_encode(REF_NATURAL, c->mask, c->N, payload, c->K, word, c->N);
+    ref_encode(c->mask, c->N, payload, c->K, word, c->N);
     for (size_t i = 0; i < c->N; i++)
         llrs[i] = (int16_t)lround(scale * 2 * ((word[i] ? -1 : 1) + sqrt(v) * random_gauss(r)) / v);
 }
@@ -865,7 +846,7 @@ static void run_frame(const struct frame *f) {
     for (size_t i = 0; i < N; i++) mask[i] = (uint8_t)(f->mask[i] - '0');
     if (ruznavo_number(ruznavo_plan(mask, N, plan, 2 * N, counts))) stop("a frame's plan");
     uint64_t answer =
-        ruznavo_decode(RUZNAVO_NATURAL, mask, N, plan, 2 * N, f->sweeps, f->llrs, N, soft, N, hard, N, payload, K, work, 48);
+        ruznavo_decode(mask, N, plan, 2 * N, f->sweeps, f->llrs, N, soft, N, hard, N, payload, K, work, 48);
     ref_scan(mask, N, f->llrs, f->sweeps, reference);
     if (ruznavo_number(answer) || ruznavo_cycles(answer) != f->cycles) stop("a frame's answer");
     if (ruznavo_check(answer) != f->check || ruznavo_undecided(answer) != f->undecided) stop("a frame's check");
@@ -881,7 +862,7 @@ static void run_undecided(void) {
     static int32_t soft[REF_MAX_N], work[RUZNAVO_MAX_WORK_WORDS];
     size_t N = REF_MAX_N;
     uint64_t answer =
-        ruznavo_decode(RUZNAVO_NATURAL, mask, N, plan, 2 * N, 8, llrs, N, soft, N, hard, N, payload, N, work, RUZNAVO_MAX_WORK_WORDS);
+        ruznavo_decode(mask, N, plan, 2 * N, 8, llrs, N, soft, N, hard, N, payload, N, work, RUZNAVO_MAX_WORK_WORDS);
     if (answer != (uint64_t)1024 << 41 || ruznavo_undecided(answer) != 1024) stop("1024 undecided bits");
     for (size_t i = 0; i < N; i++)
         if (hard[i] != RUZNAVO_UNDECIDED || payload[i] != RUZNAVO_UNDECIDED) stop("an undecided bit");
@@ -972,8 +953,7 @@ static void run_words(void) {
                          words[2][8] = {{0, 1, 0, 1, 0, 1, 0, 1}, {0, 0, 0, 1, 1, 1, 0, 1}};
     uint8_t bits[2][8];
     for (int i = 0; i < 2; i++) {
-        if (ruznavo_encode(RUZNAVO_NATURAL, masks[i], 8, payload, 4, bits[0], 8) ||
-            ref_encode(REF_NATURAL, masks[i], 8, payload, 4, bits[1], 8))
+        if (ruznavo_encode(masks[i], 8, payload, 4, bits[0], 8) || ref_encode(masks[i], 8, payload, 4, bits[1], 8))
             stop("the word's answer");
         if (memcmp(bits[0], words[i], 8) || memcmp(bits[1], words[i], 8)) stop("the word");
     }
@@ -1080,9 +1060,6 @@ static void all_kinds_tried(void) {
     static const int least_stage[REF_KINDS] = {0, 0, 1, 2, 2, 3, 3, 3};
     for (int t = 0; t <= RUZNAVO_MAX_ATTEMPTS; t++)
         if (!tries_seen[t]) stop("a number of attempts not tried");
-    for (int n = 1; n <= REF_MAX_STAGE; n++)
-        for (int call = 0; call < 2; call++)
-            if (!order_seen[call][0][n] || !order_seen[call][1][n]) stop("an order not tried at an N");
     for (int n = 1; n <= REF_MAX_STAGE; n++)
         if (!undecided_seen[0][n] || !undecided_seen[1][n]) stop("undecided bits, or none, not tried at an N");
     for (int kind = 0; kind < REF_KINDS; kind++)

@@ -1,13 +1,11 @@
 -- What a C host is answered: one number; and the counts that the planner leaves. Assumes nothing.
 use Rattle.std.specs.Prelude.{◌≡◌, List, ℕ, ◌+◌, ◌*◌, ◌^◌, ℤ, length}
 use Rattle.model.specs.Lists.{over}
-use Rattle.model.specs.Refusals.{accepted, DecodeCall, plan_number, plan_counts, plan_cycles, check_number, check_cycles}
-use Rattle.model.specs.Sent.{decode_number_in, decode_cycles_in, decode_check_in, decode_undecided_in}
+use Rattle.model.specs.Refusals.{accepted, plan_number, plan_counts, plan_cycles, check_number, check_cycles, decode_number, decode_cycles, decode_check, decode_undecided}
 use Rattle.model.specs.Distance.{distance_number, distance_found}
 use Rattle.model.specs.Attempts.{FlipCall, flip_number, flip_matched, flip_attempts, flip_payload, flip_work}
 use Rattle.replay.specs.Program.{capture_text, totals_number}
-use Rattle.decode.specs.Calls.{Lent, Given, call_of}
-use Rattle.sent.specs.Calls.{LeftIn}
+use Rattle.decode.specs.Calls.{Lent, Given, call_of, Left}
 
 -- a check of a plan: number + 256 × cycles of one sweep
 abbrev pub CheckAnswer : List ℕ → List ℕ → ℕ → Type 0
@@ -21,11 +19,10 @@ PlanAnswer mask room r = r ≡ plan_number mask room + 256 * plan_cycles mask ro
 unfoldable pub host_counts : List ℕ → ℕ → List ℕ → List ℕ
 host_counts mask room counts = accepted (plan_number mask room) (plan_counts mask room) counts
 
--- a decode in an order: number + 256 × cycles + 2 ^ 40 × frozen check + 2 ^ 41 × number of undecided bits; and what it leaves in its buffers
-pub record DecodeAnswer (order : ℕ) (g : Given) (after : Lent) (r : ℕ) : Type 0 where
-  pub answer-is : let c : DecodeCall = call_of g in
-      r ≡ decode_number_in order c + 256 * decode_cycles_in order c + 2 ^ 40 * decode_check_in order c + 2 ^ 41 * decode_undecided_in order c
-  pub left : LeftIn order g after
+-- a decode: number + 256 × cycles + 2 ^ 40 × frozen check + 2 ^ 41 × number of undecided bits; and what it leaves in its buffers
+pub record DecodeAnswer (g : Given) (after : Lent) (r : ℕ) : Type 0 where
+  pub answer-is : r ≡ decode_number (call_of g) + 256 * decode_cycles (call_of g) + 2 ^ 40 * decode_check (call_of g) + 2 ^ 41 * decode_undecided (call_of g)
+  pub left : Left g after
 
 -- a mask for a wanted distance: number + 256 × (1 where a mask was written); room is the length of the mask buffer
 abbrev pub DistanceAnswer : ℕ → ℕ → ℕ → ℕ → ℕ → Type 0
