@@ -2,13 +2,13 @@
 use mathlib.Core.Path.{◌≡◌, refl, sym, ◌∙◌, ap, ap₂, subst}
 use mathlib.Core.Bool.{Bool, true, false, cond, ◌&&◌}
 use mathlib.Core.List.{List, [], ◌∷◌, ◌++◌, map, append_assoc}
-use Prim.Native.Nat.{ℕ, zero, suc, ◌^◌, ◌≤◌, ◌<◌, min}
+use Prim.Native.Nat.{ℕ, zero, suc, ◌^◌, ◌≤◌, min}
 use native.Mathlib.Omega.{arith}
 use borrow.Author.Tests.{eq-eqb, leb-true, le-leb}
-use lib.Dec.{T, eqb, leb, leb→le, eqb-suc-zero}
+use lib.Dec.{eqb, leb, leb→le, eqb-suc-zero}
 use lib.Seq.{take_at}
 use lib.IntN.{ℤ, pos}
-use lib.ListN.{length, take, drop, replicate, length-map}
+use lib.ListN.{length, take, drop, length-map}
 use Rattle.model.specs.Lists.{over}
 use Rattle.model.specs.Soft.{finite, soft_zero, word_of}
 use Rattle.model.specs.Scan.{Decoded, decode_scan}
@@ -20,7 +20,7 @@ use Rattle.model.proofs.Calls.{length-softs, length-hards, accepted-size, accept
 use Rattle.model.proofs.SentCalls.{same_test, number_in, cycles_in, number-reordered}
 use Rattle.model.proofs.Reordering.{length-reordered, in_order-map, in_order-few}
 use Rattle.decode.specs.Calls.{Lent, lent, Given, given, call_of, Outcome}
-use Rattle.sent.specs.Calls.{LeftIn, OutcomeIn}
+use Rattle.sent.specs.Calls.{OutcomeIn}
 use Rattle.sent.proofs.Orders.{first_fails}
 
 -- a result of an accepted call

@@ -1,14 +1,14 @@
 -- The encoder's word in an order, from what the encoder leaves. Assumes nothing.
 use mathlib.Core.Path.{◌≡◌, refl, sym, ◌∙◌, ap}
-use mathlib.Core.Bool.{Bool, true, false, cond, not, ◌&&◌}
+use mathlib.Core.Bool.{true, false, not, ◌&&◌}
 use mathlib.Core.List.{List, [], ◌∷◌, ◌++◌}
 use Prim.Native.Nat.{ℕ, zero, suc, ◌^◌, ◌≤◌, ◌<◌}
 use native.Mathlib.Omega.{arith}
 use borrow.Author.Tests.{eq-eqb, leb-true}
-use lib.Dec.{eqb, leb, eqb-suc-zero}
+use lib.Dec.{eqb, leb}
 use lib.ListN.{length, take, drop}
 use Rattle.model.specs.Lists.{over}
-use Rattle.model.specs.Encoding.{place, transform, encode}
+use Rattle.model.specs.Encoding.{place, encode}
 use Rattle.model.specs.Refusals.{exponent, accepted, refusal, row_1, encode_number, encode_word}
 use Rattle.model.specs.Sent.{reordered, is_order, in_order, order_number, sent_word, encode_number_in, encode_word_in}
 use Rattle.model.proofs.Lists.{absurd_bool}

@@ -1,22 +1,21 @@
 -- The tests of a square frame's call, one after the other. Assumes nothing.
 use mathlib.Core.Path.{◌≡◌, refl, sym, ap, ap₂, ◌∙◌}
 use mathlib.Core.Bool.{Bool, true, false, cond, not, ◌&&◌}
-use mathlib.Core.List.{List, [], ◌∷◌}
-use Prim.Native.Nat.{ℕ, ◌*◌, ◌^◌, ◌≤◌, ◌<◌}
+use mathlib.Core.List.{List}
+use Prim.Native.Nat.{ℕ, ◌*◌, ◌^◌, ◌≤◌}
 use native.Mathlib.Nat.{mul-le-mul}
 use native.Mathlib.Omega.{arith}
-use borrow.Author.Tests.{eqb-true, leb-true, leb-false, eq-eqb}
-use lib.Dec.{T, eqb, leb}
+use borrow.Author.Tests.{eqb-true, leb-true}
+use lib.Dec.{eqb, leb}
 use lib.Pow.{pow_mono}
 use native.Mathlib.Decide.{dec_le}
 use lib.ListN.{length}
 use Rattle.model.specs.Lists.{at_most}
 use Rattle.model.specs.Encoding.{max_mask}
-use Rattle.model.specs.Refusals.{Test, test, refusal, exponent, row_1, row_2}
+use Rattle.model.specs.Refusals.{refusal, exponent}
 use Rattle.model.proofs.Lists.{absurd_bool}
 use Rattle.model.proofs.Refusals.{passes}
 use Rattle.inputs.specs.Tests.{MaskTests}
-use Rattle.model.specs.Square.{row_22, row_23}
 use Rattle.square.specs.Calls.{shape_number, ShapePassed, ShapeTests}
 
 pub square-small : (N : ℕ) → N ≤ 32 → N * N ≤ 1024

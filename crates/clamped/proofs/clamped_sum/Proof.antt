@@ -16,25 +16,25 @@ use Rattle.clamped.proofs.clamped_sum.Tie as tie
 abbrev sum : tie.Start → ℤ
 sum s = s.args.llr +ℤ limit 65536 s.args.value
 
-sum_of : (c : tie.After-widened) → to_z w32 (of_z w32 c.widened.result) +ℤ to_z w32 (of_z w32 c.before.max-word.result) ≡ sum c.before.before.before
+sum_of : (c : tie.After-widened) → to_z w32 (of_z w32 c.widened.result) +ℤ to_z w32 (of_z w32 c.before.max_word-near.result) ≡ sum c.before.before.before
 sum_of c =
     let near = c.before in
     let s = near.before.before in
     ap₂ (λ (a b : ℤ). a +ℤ b)
-    (back c.widened.type-inv ∙ c.widened.ensures ∙ to_z-of_z s.ranges.llr)
-    (limited 65535 near.before.min-word.type-inv near.max-word.type-inv near.before.min-word.ensures near.max-word.ensures (to_z-of_z s.ranges.value))
+    (back c.widened.type_inv ∙ c.widened.ensures ∙ to_z-of_z s.ranges.llr)
+    (limited 65535 near.before.min_word.type_inv near.max_word-near.type_inv near.before.min_word.ensures near.max_word-near.ensures (to_z-of_z s.ranges.value))
 
-add-sum : tie.Need-overflow-add-sum
+add-sum : tie.Need-overflow_add-sum
 add-sum c =
     let s = c.before.before.before in
     rw (sum_of c) (fits_word (sum s) (omega (arith, sum-size s.args.llr s.ranges.llr.sfits s.args.value)))
 
-clamped_of : (c : tie.After-max-word2) → to_z w32 (of_z w32 c.max-word2.result) ≡ limit max_llr (sum c.before.before.before.before.before)
+clamped_of : (c : tie.After-max_word) → to_z w32 (of_z w32 c.max_word.result) ≡ limit max_llr (sum c.before.before.before.before.before)
 clamped_of c =
     let added = c.before.before in
-    limited 32766 c.before.min-word2.type-inv c.max-word2.type-inv c.before.min-word2.ensures c.max-word2.ensures (to_z-of_z (add-sum added)) ∙ ap (limit max_llr) (sum_of added)
+    limited 32766 c.before.min_word-2.type_inv c.max_word.type_inv c.before.min_word-2.ensures c.max_word.ensures (to_z-of_z (add-sum added)) ∙ ap (limit max_llr) (sum_of added)
 
-cast-result : tie.Need-overflow-cast-result
+cast-result : tie.Need-overflow_cast-result
 cast-result c = rw (clamped_of c) (limit-fits (sum c.before.before.before.before.before))
 
 returns : tie.Need-returns
@@ -42,8 +42,8 @@ returns c =
     let s = c.before.before.before.before.before in
     to_z-of_z (cast-result c) ∙ clamped_of c ∙ sum_is s.args.llr s.ranges.llr.sfits s.args.value
 
-pub clamped-sum-spec : {M : Type 1} → statement M
-clamped-sum-spec =
+pub clamped_sum_spec : {M : Type 1} → statement M
+clamped_sum_spec =
     tie.close
     (tie.spec
     (λ c κs. search rules) (λ c. search rules) (λ c κs. search rules)  -- near

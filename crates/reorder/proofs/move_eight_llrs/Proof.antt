@@ -20,12 +20,12 @@ returns c =
     let d = h.before.before.before.before in
     let start = d.before.before.before.before in
     let a = start.args in
-    eight-read a.from.now (pos 0) a.to.now _ a.at stored.store-eight-llrs.ensures a.r a.s a.t a.o
-    (back16 d.before.before.before.a.given) (back16 d.before.before.b.given) (back16 d.before.c.given) (back16 d.d.given)
-    (back16 h.before.before.before.e.given) (back16 h.before.before.f.given) (back16 h.before.g.given) (back16 h.h.given)
+    eight-read a.from.now (pos 0) a.to.now _ a.at stored.store_eight_llrs.ensures a.r a.s a.t a.o
+    (back16 d.before.before.before.a-1.given) (back16 d.before.before.b-1.given) (back16 d.before.c-1.given) (back16 d.d-1.given)
+    (back16 h.before.before.before.e-1.given) (back16 h.before.before.f-1.given) (back16 h.before.g-1.given) (back16 h.h-1.given)
 
-pub move-eight-llrs-spec : {M : Type 1} → statement M
-move-eight-llrs-spec =
+pub move_eight_llrs_spec : {M : Type 1} → statement M
+move_eight_llrs_spec =
     tie.close
     (tie.spec
     (λ c. (reached c).at₀.bytes) (λ c. (reached c).at₀.below)  -- from[r]

@@ -20,12 +20,12 @@ returns c =
     let d = h.before.before.before.before in
     let start = d.before.before.before.before in
     let a = start.args in
-    eight-read a.from.now (pos 0) a.to.now _ a.at stored.store-eight-words.ensures a.r a.s a.t a.o
-    (back d.before.before.before.a.given) (back d.before.before.b.given) (back d.before.c.given) (back d.d.given)
-    (back h.before.before.before.e.given) (back h.before.before.f.given) (back h.before.g.given) (back h.h.given)
+    eight-read a.from.now (pos 0) a.to.now _ a.at stored.store_eight_words.ensures a.r a.s a.t a.o
+    (back d.before.before.before.a-1.given) (back d.before.before.b-1.given) (back d.before.c-1.given) (back d.d-1.given)
+    (back h.before.before.before.e-1.given) (back h.before.before.f-1.given) (back h.before.g-1.given) (back h.h-1.given)
 
-pub move-eight-words-spec : {M : Type 1} → statement M
-move-eight-words-spec =
+pub move_eight_words_spec : {M : Type 1} → statement M
+move_eight_words_spec =
     tie.close
     (tie.spec
     (λ c. (reached c).at₀.bytes) (λ c. (reached c).at₀.below)  -- from[r]
