@@ -6,7 +6,6 @@ use Prim.Native.Nat.{ℕ, zero, suc, ◌+◌, ◌*◌, ◌^◌, ◌≤◌, ◌<�
 use native.Mathlib.Decide.{dec_lt}
 use native.Mathlib.Omega.{arith}
 use borrow.Author.Tests.{le-leb, lt-leb}
-use lib.Dec.{eqb}
 use lib.IntN.{ℤ}
 use lib.ListN.{length, get_or, drop}
 use lib.Pow.{pow_mono}
@@ -171,15 +170,6 @@ pub record SoFar (mask : List ℕ) (llrs : List ℤ) (sweeps N t K count : ℕ) 
   pub tail : SameTail K payload₀ payload
   pub words : SamePast (N * (t + 3)) w₀ w
 
-pub none_made : {mask bits ranked : List ℕ} {llrs : List ℤ} {sweeps N t K count known trial words : ℕ} {payload : List ℕ} {w : List ℤ}
-    → Searchable mask bits ranked llrs sweeps N t K count known trial (length payload) words → SoFar mask llrs sweeps N t K count payload w 0 payload w
-none_made {mask = mask} {llrs = llrs} {sweeps = sweeps} {t = t} {K = K} {payload = payload} can = record {
-  few = omega arith;
-  none = λ r h. ap (matching t mask llrs sweeps) (let q : r ≡ 0 = omega arith in q) ∙ can.no_match;
-  tail = tail-same K payload;
-  words = record { past = λ j le. refl; long = refl };
-}
-
 pub past_then : {n : ℕ} {w v z : List ℤ} → SamePast n w v → SamePast n v z → SamePast n w z
 past_then p q = record { past = λ j le. q.past j le ∙ p.past j le; long = q.long ∙ p.long }
 
@@ -224,18 +214,10 @@ all_made {mask = mask} {llrs = llrs} {sweeps = sweeps} {t = t} {count = count} {
   words = so_far.words;
 }
 
--- a ranked leaf is one of the positions
-pub rank-small : {mask bits ranked : List ℕ} {llrs : List ℤ} {sweeps N t K count known trial payload words : ℕ} → Searchable mask bits ranked llrs sweeps N t K count known trial payload words
-    → (s : ℕ) → s < count → get_or ranked s 0 ≤ 1024
-rank-small {mask = mask} {llrs = llrs} {sweeps = sweeps} {t = t} can s h =
-    let d = can.able.passable.decodable in
-    let m : 2 ^ t ≤ 1024 = pow_mono d.low in
-    omega (arith, can.ranks s h, below, d.positions, d.size)
-  where
-    below : ranked_leaf mask (last_inputs t mask (map finite llrs) sweeps) s ≤ length mask
-    below = unfold ranked_leaf in first-most (length mask) (λ i. is_unfrozen (get_or mask i 0) && eqb (leaves_before mask (last_inputs t mask (map finite llrs) sweeps) i) s)
-
 -- ---- what pass one and the attempts find
+pub kept : {mask : List ℕ} {llrs : List ℤ} {sweeps N t : ℕ} {w v : List ℤ} → Passed mask llrs sweeps N t w v → SamePast (N * (t + 3)) w v
+kept p = record { past = p.past; long = p.long }
+
 module _ {mask : List ℕ} {llrs : List ℤ} {sweeps N t : ℕ} {w₀ : List ℤ} (allowed : ℕ) (payload₀ : List ℕ) where
   -- pass one matches
   pub made-first : {payload' bits : List ℕ} {v : List ℤ} → bits ≡ pass_bits t mask (map finite llrs) sweeps → is_multiple (payload_of mask bits) ≡ true → payload' ≡ over (payload_of mask bits) payload₀

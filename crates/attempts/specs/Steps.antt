@@ -1,5 +1,5 @@
 -- What the attempts require and find. Assumes nothing: these are definitions.
-use Rattle.std.specs.Prelude.{◌≡◌, Bool, false, List, map, ℕ, suc, ◌+◌, ◌*◌, ◌≤◌, ◌<◌, T, ℤ, length, get_or, drop}
+use Rattle.std.specs.Prelude.{◌≡◌, Bool, true, false, Option, None, Some, List, map, ℕ, suc, ◌+◌, ◌*◌, ◌≤◌, ◌<◌, T, ℤ, length, get_or, drop}
 use Rattle.model.specs.Lists.{at_most, first_where, over}
 use Rattle.model.specs.Soft.{finite}
 use Rattle.model.specs.Encoding.{max_mask, unfrozen}
@@ -9,6 +9,8 @@ use Rattle.words.specs.Words.{soft}
 use Rattle.ranking.specs.Keys.{Rankable}
 use Rattle.leaves.specs.Pass.{Passable}
 use Rattle.passes.specs.Trials.{Attemptable, SamePast}
+use Rattle.attempts.specs.declared.Attempted.{Attempted}
+use Rattle.attempts.specs.declared.Attempted.TheVariants.{Matched, Unmatched}
 
 -- attempt s matches
 abbrev pub matching : (t : ℕ) → List ℕ → List ℤ → ℕ → ℕ → Bool
@@ -37,6 +39,11 @@ pub record Searched (mask : List ℕ) (llrs : List ℤ) (sweeps N t K count : �
   pub tail : SameTail K payload payload'
   pub words : SamePast (N * (t + 3)) w v
 
+-- that number from the first match: one more than `count` for none
+abbrev pub first_found : ℕ → Option ℕ → ℕ
+first_found count None = count + 1
+first_found count (Some t) = t
+
 -- the same before the leaves are ranked: row 0 ranks them as the incoming leaf values of pass one do
 pub record AfterFirst (mask bits : List ℕ) (llrs : List ℤ) (sweeps N t K count known trial payload : ℕ) (w : List ℤ) : Type 0 where
   pub able : Attemptable mask bits llrs sweeps N t known trial (length w)
@@ -61,6 +68,16 @@ pub record Flippable (mask : List ℕ) (ones : Bool) (llrs : List ℤ) (sweeps a
   pub enough : 8 ≤ K
   pub few : allowed ≤ max_attempts
   pub payload-room : K ≤ payload
+
+-- whether they found a match
+abbrev pub is_matched : Attempted → Bool
+is_matched (Matched t) = true
+is_matched (Unmatched made) = false
+
+-- its t, or the number of attempts made
+abbrev pub attempts_of : Attempted → ℕ
+attempts_of (Matched t) = t
+attempts_of (Unmatched made) = made
 
 -- what they find, and what they leave
 pub record Made (mask : List ℕ) (llrs : List ℤ) (sweeps allowed N t : ℕ) (payload payload' : List ℕ) (w v : List ℤ) (matched : Bool) (attempts : ℕ) : Type 0 where

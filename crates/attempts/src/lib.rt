@@ -1,11 +1,11 @@
 // Pass one and the attempts after it, up to the first whose payload is a multiple of the generator.
 #![tactic(auto)]
 
-ghost use Rattle.std.specs.Prelude.{◌≡◌, ◌≤◌, min, T, length};
+ghost use Rattle.std.specs.Prelude.{◌≡◌, ◌≤◌, T, IfSome, length};
 ghost use Rattle.model.specs.Lists.{at_most, over};
 ghost use Rattle.model.specs.Encoding.{unfrozen, payload_of};
 ghost use Rattle.model.specs.Crc.{is_multiple};
-ghost use Rattle.attempts.specs.Steps.{Searchable, Searched, AfterFirst, Flippable, Made};
+ghost use Rattle.attempts.specs.Steps.{first_found, is_matched, attempts_of, Searchable, Searched, AfterFirst, Flippable, Made};
 
 use crc::is_multiple;
 use decisions::read_payload;
@@ -26,12 +26,11 @@ fn payload_matches(mask: &[u8], u: &[u8], payload: &mut [u8], k: usize) -> bool
     is_multiple(&payload[..k])
 }
 
-// The first of `count` attempts that matches, or one more than `count`. `bits` holds those of pass one, and `ranked` the ranked leaves.
+// The first attempt that matches, by its t. Attempt t flips the t-th of the ranked leaves; `bits` holds those of pass one.
 fn first_match(
     mask: &[u8],
     bits: &[u8],
     ranked: &[u16],
-    count: usize,
     k: usize,
     llrs: &[i16],
     sweeps: usize,
@@ -41,22 +40,29 @@ fn first_match(
     trial: &mut [u8],
     payload: &mut [u8],
     work: &mut [i32],
-) -> usize
-    requires { Searchable mask.now bits.now ranked.now llrs.now sweeps size stage k count (length known.old) (length trial.old) (length payload.old) (length work.old) }
-    ensures { Searched mask.now llrs.now sweeps size stage k count payload.old payload.new work.old work.new result }
+) -> Option<usize>
+    requires { Searchable mask.now bits.now ranked.now llrs.now sweeps size stage k (length ranked.now) (length known.old) (length trial.old) (length payload.old) (length work.old) }
+    ensures searched { Searched mask.now llrs.now sweeps size stage k (length ranked.now) payload.old payload.new work.old work.new (first_found (length ranked.now) result) }
+    ensures within { IfSome result (λ t. t ≤ length ranked.now) }
 {
-    let mut t = 0;
-    while t < count {
-        let flipped = ranked[t] as usize;
-        t += 1;
+    for (before, leaf) in ranked.iter().enumerate() {
         attempt(
-            mask, bits, flipped, llrs, sweeps, size, stage, known, trial, work,
+            mask,
+            bits,
+            *leaf as usize,
+            llrs,
+            sweeps,
+            size,
+            stage,
+            known,
+            trial,
+            work,
         );
         if payload_matches(mask, trial, payload, k) {
-            return t;
+            return Some(before + 1);
         }
     }
-    count + 1
+    None
 }
 
 // The attempts after pass one, whose leaf values are still in row 0.
@@ -73,28 +79,34 @@ fn later_attempts(
     trial: &mut [u8],
     payload: &mut [u8],
     work: &mut [i32],
-) -> usize
+) -> Option<usize>
     requires { AfterFirst mask.now bits.now llrs.now sweeps size stage k count (length known.old) (length trial.old) (length payload.old) work.old }
-    ensures { Searched mask.now llrs.now sweeps size stage k count payload.old payload.new work.old work.new result }
+    ensures searched { Searched mask.now llrs.now sweeps size stage k count payload.old payload.new work.old work.new (first_found count result) }
+    ensures within { IfSome result (λ t. t ≤ count) }
 {
     let mut ranked = [0u16; MAX_ATTEMPTS];
     rank_leaves(mask, work, &mut ranked, count);
     first_match(
-        mask, bits, &ranked, count, k, llrs, sweeps, size, stage, known, trial, payload, work,
+        mask,
+        bits,
+        &ranked[..count],
+        k,
+        llrs,
+        sweeps,
+        size,
+        stage,
+        known,
+        trial,
+        payload,
+        work,
     )
 }
 
-// What the attempts answer: matched with its t, or unmatched with the number of attempts made.
-#[derive(Drop)]
-pub struct Attempted {
-    pub matched: bool,
-    pub attempts: u32,
-}
-
-fn smaller(a: usize, b: usize) -> usize
-    ensures { result ≡ min a b }
-{
-    if a < b { a } else { b }
+// What the attempts answer: a match by its t, which is 0 for pass one, or none, with the number of attempts made.
+#[derive(Clone, Copy, Debug, PartialEq, Eq)]
+pub enum Attempted {
+    Matched(u32),
+    Unmatched(u32),
 }
 
 // Pass one, and up to `allowed` attempts where it does not match. If none matches, the payload is pass one's again.
@@ -114,28 +126,21 @@ pub fn flip_attempts(
     work: &mut [i32],
 ) -> Attempted
     requires { Flippable mask.now ones llrs.now sweeps allowed size stage k (length known.old) (length bits.old) (length trial.old) (length payload.old) (length work.old) }
-    ensures { Made mask.now llrs.now sweeps allowed size stage payload.old payload.new work.old work.new result.matched result.attempts }
+    ensures { Made mask.now llrs.now sweeps allowed size stage payload.old payload.new work.old work.new (is_matched result) (attempts_of result) }
 {
     first_pass(mask, ones, llrs, sweeps, size, stage, known, bits, work);
     if payload_matches(mask, bits, payload, k) {
-        return Attempted {
-            matched: true,
-            attempts: 0,
-        };
+        return Attempted::Matched(0);
     }
-    let count = smaller(allowed, k);
-    let t = later_attempts(
+    let count = allowed.min(k);
+    let found = later_attempts(
         mask, bits, count, k, llrs, sweeps, size, stage, known, trial, payload, work,
     );
-    if t <= count {
-        return Attempted {
-            matched: true,
-            attempts: t as u32,
-        };
-    }
-    read_payload(mask, bits, payload);
-    Attempted {
-        matched: false,
-        attempts: count as u32,
+    match found {
+        Some(t) => Attempted::Matched(t as u32),
+        None => {
+            read_payload(mask, bits, payload);
+            Attempted::Unmatched(count as u32)
+        }
     }
 }

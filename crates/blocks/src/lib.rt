@@ -14,7 +14,7 @@ pub fn two_bits(bits: &mut [u8])
     requires { (length bits.old ≡ 2) × AllBits bits.old }
     ensures { bits.new ≡ transform 1 bits.old }
 {
-    bits[0] = bits[0] ^ bits[1];
+    bits[0] ^= bits[1];
 }
 
 // The transform of four bits.

@@ -10,7 +10,7 @@ use combine::node_message;
 use words::{add_words, box_words, store_four, sub_words};
 
 // The words at k of both halves of a message.
-#[derive(Drop)]
+#[derive(Clone, Copy)]
 struct Pair {
     low: i32,
     high: i32,
@@ -41,15 +41,14 @@ fn by_list_fours(w: &mut [i32], m: usize, x: usize, l: usize, c: usize, h: usize
     let y = x + h;
     let r = l + h;
     let g = m + h;
-    let mut k = 0;
-    while k < h {
+    for i in 0..h / 4 {
+        let k = 4 * i;
         let p = pair_by_list(&w[..], l, r, y, c, k);
         let q = pair_by_list(&w[..], l, r, y, c, k + 1);
         let u = pair_by_list(&w[..], l, r, y, c, k + 2);
         let v = pair_by_list(&w[..], l, r, y, c, k + 3);
         store_four(w, m + k, p.low, q.low, u.low, v.low);
         store_four(w, g + k, p.high, q.high, u.high, v.high);
-        k += 4;
     }
 }
 

@@ -1,19 +1,17 @@
 -- The sizes and signs of four words, as the machine finds them. Assumes nothing.
-use mathlib.Core.Path.{◌≡◌, refl, sym, ap, ap₂, ◌∙◌, subst}
+use mathlib.Core.Path.{◌≡◌, refl, sym, ap, ap₂, ◌∙◌}
 use mathlib.Core.Bool.{Bool, true, false, cond}
 use mathlib.Core.List.{[], ◌∷◌}
-use Prim.Native.Nat.{ℕ, ◌^◌, ◌<◌, min, max}
+use Prim.Native.Nat.{ℕ, min, max}
 use native.Mathlib.Nat.{min_comm}
 use native.Mathlib.Omega.{arith}
-use lib.IntN.{ℤ, pos, negsuc, nat_abs}
-use lib.Signed.{lt_z, mag, non_neg}
-use lib.Dec.{T, ltb}
-use mir.Syntax.{w32}
-use mir.Val.{Fits}
+use lib.IntN.{ℤ, pos, nat_abs}
+use lib.Signed.{lt_z, mag}
+use lib.Dec.{ltb}
 use borrow.Author.Tests.{ltb-true, ltb-false}
 use Rattle.model.specs.Soft.{mark, negative, differ}
 use Rattle.model.proofs.Algebra.{differ-assoc}
-use Rattle.words.specs.Words.{Word, flip}
+use Rattle.words.specs.Words.{Word}
 use Rattle.classes.specs.declared.Gathered.{Gathered}
 use Rattle.classes.specs.LeastSizes.{least, next, parity}
 use Rattle.classes.specs.Folds.{four_list, keep_sign}
@@ -65,16 +63,6 @@ parity_of_four a b c d =
     ∙ ap (λ (t : Bool). differ (negative a) (differ (negative b) (differ (negative c) t))) (sym (differ-false (negative d)))
 
 -- ---- a size with a sign
-pub pos-fits : (n : ℕ) → n < 2 ^ 31 → T (non_neg (pos n)) × Fits w32 n
-pos-fits n h = let g : n < 2 ^ 32 = omega arith in (tt, record { fits = g })
-
-pub size-flipped : (z : ℤ) → cond (negative z) (flip z) z ≡ pos (mag z)
-size-flipped (pos n) = refl
-size-flipped (negsuc n) = refl
-
-pub size-no : (z : ℤ) → negative z ≡ false → z ≡ pos (mag z)
-size-no (pos n) e = refl
-size-no (negsuc n) e = absurd (subst T e tt)
 
 pub mag-kept : (s : Bool) (n : ℕ) → mag (keep_sign s n) ≡ n
 mag-kept true n = refl

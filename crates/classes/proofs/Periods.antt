@@ -13,8 +13,5 @@ by_period P one two four (suc (suc (suc zero))) h = let e : 4 % 3 ≡ 0 = h.divi
 by_period P one two four (suc (suc (suc (suc zero)))) h = four
 by_period P one two four (suc (suc (suc (suc (suc p))))) h = absurd (omega (arith, h.most))
 
-pub last_period : (p : ℕ) → Period p → (p ≡ 1 → ⊥) → (p ≡ 2 → ⊥) → p ≡ 4
-last_period p h = by_period (λ p. (p ≡ 1 → ⊥) → (p ≡ 2 → ⊥) → p ≡ 4) (λ a b. absurd (a refl)) (λ a b. absurd (b refl)) (λ a b. refl) p h
-
 pub lower_period : (p : ℕ) → Period p → (p ≡ 4 → ⊥) → (0 < p) × (p ≤ 2)
 lower_period p h = by_period (λ p. (p ≡ 4 → ⊥) → (0 < p) × (p ≤ 2)) (λ a. (omega arith, omega arith)) (λ a. (omega arith, omega arith)) (λ a. absurd (a refl)) p h

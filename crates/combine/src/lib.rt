@@ -18,15 +18,13 @@ pub fn node_message(w: &mut [i32], m: usize, x: usize, l: usize, h: usize)
     let y = x + h;
     let r = l + h;
     let g = m + h;
-    let mut k = 0;
-    while k < h {
+    for k in 0..h {
         let first = w[x + k];
         let second = w[y + k];
         let left = w[l + k];
         let right = w[r + k];
         w[m + k] = box_words(left, add_words(second, right));
         w[g + k] = add_words(box_words(first, left), right);
-        k += 1;
     }
 }
 
@@ -40,14 +38,12 @@ pub fn message_left_certain(w: &mut [i32], m: usize, x: usize, l: usize, h: usiz
     let y = x + h;
     let r = l + h;
     let g = m + h;
-    let mut k = 0;
-    while k < h {
+    for k in 0..h {
         let first = w[x + k];
         let second = w[y + k];
         let right = w[r + k];
         w[m + k] = add_words(second, right);
         w[g + k] = add_words(first, right);
-        k += 1;
     }
 }
 
@@ -60,14 +56,12 @@ pub fn message_right_zero(w: &mut [i32], m: usize, x: usize, l: usize, h: usize)
 {
     let y = x + h;
     let g = m + h;
-    let mut k = 0;
-    while k < h {
+    for k in 0..h {
         let first = w[x + k];
         let second = w[y + k];
         let left = w[l + k];
         w[m + k] = box_words(left, second);
         w[g + k] = box_words(first, left);
-        k += 1;
     }
 }
 

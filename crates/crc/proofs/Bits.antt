@@ -1,16 +1,15 @@
--- The register's step bit by bit, the test for zero, and a bit more taken in. Assumes nothing.
-use mathlib.Core.Path.{◌≡◌, refl, sym, ◌∙◌, ap}
+-- The register's step bit by bit, the test of two lists, and a bit more taken in. Assumes nothing.
+use mathlib.Core.Path.{◌≡◌, refl, ◌∙◌, ap}
 use mathlib.Core.Bool.{Bool, ◌&&◌}
 use mathlib.Core.List.{List, [], ◌∷◌}
 use Prim.Native.Nat.{ℕ, zero, suc, ◌+◌, ◌*◌, ◌%◌, ◌≤◌, ◌<◌}
-use native.Mathlib.Nat.{zero-add, suc-add}
 use native.Mathlib.Omega.{arith}
-use lib.Dec.{eqb, eqb-suc-zero}
+use lib.Dec.{eqb}
+use lib.Pointwise.{pointwise}
 use lib.ListN.{get_or, drop, length}
 use lib.Seq.{drop-cons}
 use Rattle.model.specs.Lists.{same}
-use Rattle.crc.specs.Division.{add_front, shift, remainder, cleared}
-use Rattle.model.proofs.Lists.{and-true}
+use Rattle.crc.specs.Division.{add_front, shift, remainder}
 
 abbrev eight : ℕ → ℕ → ℕ → ℕ → ℕ → ℕ → ℕ → ℕ → List ℕ
 eight a b c d e f g h = a ∷ b ∷ c ∷ d ∷ e ∷ f ∷ g ∷ h ∷ []
@@ -31,20 +30,27 @@ unfolding shift add_front
 step_is a b c d e f g h x a' b' d' f' h' D F H p q r s t =
     eight_path (add-one b a a' p) (add-one c a b' q) (add_none d a D) (add-one e a d' r) (add_none f a F) (add-one g a f' s) (add_none h a H) (add-one x a h' t)
 
-sum-zero : (x y : ℕ) → eqb (x + y) 0 ≡ (eqb x 0 && eqb y 0)
-sum-zero zero y = ap (λ (n : ℕ). eqb n 0) (zero-add y)
-sum-zero (suc x) y = ap (λ (n : ℕ). eqb n 0) (suc-add x y) ∙ eqb-suc-zero (x + y) ∙ sym (ap (λ (b : Bool). b && eqb y 0) (eqb-suc-zero x))
+-- eight elements, by their places
+pub eight-of : (r : List ℕ) → length r ≡ 8
+    → eight (get_or r 0 0) (get_or r 1 0) (get_or r 2 0) (get_or r 3 0) (get_or r 4 0) (get_or r 5 0) (get_or r 6 0) (get_or r 7 0) ≡ r
+eight-of (a ∷ b ∷ c ∷ d ∷ e ∷ f ∷ g ∷ h ∷ []) n = refl
+eight-of [] n = absurd (omega arith)
+eight-of (a ∷ []) n = absurd (omega arith)
+eight-of (a ∷ b ∷ []) n = absurd (omega arith)
+eight-of (a ∷ b ∷ c ∷ []) n = absurd (omega arith)
+eight-of (a ∷ b ∷ c ∷ d ∷ []) n = absurd (omega arith)
+eight-of (a ∷ b ∷ c ∷ d ∷ e ∷ []) n = absurd (omega arith)
+eight-of (a ∷ b ∷ c ∷ d ∷ e ∷ f ∷ []) n = absurd (omega arith)
+eight-of (a ∷ b ∷ c ∷ d ∷ e ∷ f ∷ g ∷ []) n = absurd (omega arith)
+eight-of (a ∷ b ∷ c ∷ d ∷ e ∷ f ∷ g ∷ h ∷ x ∷ r) n = absurd (omega arith)
 
-pub clear_is : (a b c d e f g h : ℕ) → eqb (a + (b + (c + (d + (e + (f + (g + h))))))) 0 ≡ same (eight a b c d e f g h) cleared
+-- the machine's test of two lists is the model's
+pub same-is : (xs ys : List ℕ) → pointwise eqb xs ys ≡ same xs ys
 unfolding same
-clear_is a b c d e f g h =
-    sum-zero a (b + (c + (d + (e + (f + (g + h))))))
-    ∙ ap (λ (z : Bool). eqb a 0 && z) (sum-zero b (c + (d + (e + (f + (g + h)))))
-    ∙ ap (λ (z : Bool). eqb b 0 && z) (sum-zero c (d + (e + (f + (g + h))))
-    ∙ ap (λ (z : Bool). eqb c 0 && z) (sum-zero d (e + (f + (g + h)))
-    ∙ ap (λ (z : Bool). eqb d 0 && z) (sum-zero e (f + (g + h))
-    ∙ ap (λ (z : Bool). eqb e 0 && z) (sum-zero f (g + h)
-    ∙ ap (λ (z : Bool). eqb f 0 && z) (sum-zero g h ∙ ap (λ (z : Bool). eqb g 0 && z) (sym (and-true (eqb h 0)))))))))
+same-is [] [] = refl
+same-is [] (y ∷ ys) = refl
+same-is (x ∷ xs) [] = refl
+same-is (x ∷ xs) (y ∷ ys) = ap (λ (t : Bool). eqb x y && t) (same-is xs ys)
 
 -- one bit more is taken in
 pub taken : (r : List ℕ) (bits : List ℕ) (k : ℕ) → k < length bits → remainder r (drop k bits) ≡ remainder (shift r (get_or bits k 0)) (drop (k + 1) bits)

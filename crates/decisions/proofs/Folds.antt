@@ -3,7 +3,6 @@ use mathlib.Core.Path.{◌≡◌, refl, sym, ◌∙◌, ap, ap₂}
 use mathlib.Core.Bool.{Bool, true, false, cond, not, ◌&&◌}
 use mathlib.Core.List.{List, [], ◌∷◌, ◌++◌, append_assoc, append-nil}
 use Prim.Native.Nat.{ℕ, zero, suc, ◌+◌, ◌<◌, ◌≤◌, max}
-use native.Mathlib.Nat.{zero-add}
 use native.Mathlib.Numerals.{add-one}
 use native.Mathlib.Omega.{arith}
 use borrow.Author.Tests.{eq-eqb, ne_eqb}
@@ -14,8 +13,6 @@ use lib.Seq.{drop-cons, drop-drop, take-suc-set, drop-set-lt, length-take-le}
 use Rattle.model.specs.Lists.{tabulate, bit, over}
 use mir.Val.{bool_byte}
 use Rattle.model.specs.Soft.{Soft, finite, certain, certain_one}
-use Rattle.words.specs.Words.{write}
-use Rattle.words.proofs.Store.{store-more}
 use Rattle.model.specs.Scan.{hard_bit, undecided_in}
 use Rattle.model.specs.Encoding.{is_unfrozen, unfrozen, payload_of, is_known_one, frozen_match}
 use Rattle.model.proofs.Lists.{bit-small, and_assoc, and-true, first-left}
@@ -59,10 +56,6 @@ unfolding undecided_in tabulate
 ties_few zero f = omega arith
 ties_few (suc n) f = omega (arith, bit-small (eqb (f 0) 2), ties_few n (λ k. f (suc k)))
 
--- one store more from the front on
-pub store-at_zero : {A : Type 0} (w₀ w : List A) (k : ℕ) (v : A) (f : ℕ → A) → w ≡ write w₀ 0 k f → v ≡ f k → set w k v ≡ write w₀ 0 (k + 1) f
-store-at_zero w₀ w k v f e q = ap (λ (i : ℕ). set w i v) (sym (zero-add k)) ∙ store-more v w₀ w 0 k v f e q
-
 -- ---- the payload: j of its bits are read off the first i positions
 pub record Read (mask u p₀ p : List ℕ) (i j : ℕ) : Type 0 where
   pub place : i ≤ length mask
@@ -70,9 +63,6 @@ pub record Read (mask u p₀ p : List ℕ) (i j : ℕ) : Type 0 where
   pub left : j + unfrozen (drop i mask) ≡ unfrozen mask
   pub read : payload_of mask u ≡ take j p ++ payload_of (drop i mask) (drop i u)
   pub tail : drop j p ≡ drop j p₀
-
-pub read_none : (mask u p : List ℕ) → Read mask u p p 0 0
-read_none mask u p = record { place = omega arith; long = refl; left = zero-add (unfrozen mask); read = refl; tail = refl }
 
 module _ (mask u p₀ p : List ℕ) (i j : ℕ) (r : Read mask u p₀ p i j) (lt : i < length mask) where
   payload-at : payload_of (drop i mask) (drop i u)

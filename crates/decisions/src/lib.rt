@@ -1,14 +1,13 @@
 // What is read off the soft values: hard bits, payload, frozen check and the number of undecided bits.
 #![tactic(auto)]
 
-ghost use Rattle.std.specs.Prelude.{◌≡◌, cond, not, ℕ, ◌≤◌, ◌<◌, T, eqb, neg_ℤ, length, get_or, take, replicate};
-ghost use Rattle.model.specs.Lists.{at_most, bit, over};
+ghost use Rattle.std.specs.Prelude.{◌≡◌, cond, not, ℕ, ◌≤◌, ◌<◌, T, eqb, neg_ℤ, length, get_or};
+ghost use Rattle.model.specs.Lists.{tabulate, at_most, bit, over};
 ghost use Rattle.model.specs.Encoding.{max_mask, is_unfrozen, is_known_one, unfrozen, payload_of, frozen_match};
 ghost use Rattle.model.specs.Encoding as encoding;
 ghost use Rattle.model.specs.Scan.{undecided_in};
 ghost use Rattle.transform.specs.Steps.{AllBits};
-ghost use Rattle.words.specs.Words.{write};
-ghost use Rattle.decisions.specs.Bits.{decision, decision_at, negative_at, word_decisions, Decidable, WordRoom, WordRead, Readable, ReadOff};
+ghost use Rattle.decisions.specs.Bits.{decision, negative_at, word_decisions, Decidable, WordRoom, WordRead, Readable, ReadOff};
 
 use inputs::{UNFROZEN, larger};
 use transform::strides;
@@ -21,7 +20,7 @@ const UNDECIDED: u8 = 2;
 fn opposite(llr: i16) -> i32
     ensures { result ≡ neg_ℤ llr }
 {
-    0 - widened(llr)
+    -widened(llr)
 }
 
 // 1 where LLR plus soft is negative, otherwise 0.
@@ -40,19 +39,17 @@ fn tie_bit(llr: i16, soft: i32) -> u32
 
 // The bits by the signs of LLR plus soft, where there is no tie; answers the number of ties. Most words have none, and so
 // ties are only counted here: this costs the loop less than a choice between three bits.
-fn decide_signs(llrs: &[i16], soft: &[i32], hard: &mut [u8], size: usize) -> u32
-    requires { Decidable llrs.now soft.now size (length hard.old) }
-    ensures value { result ≡ undecided_in (word_decisions llrs.now soft.now size) }
-    ensures hard_after { hard.new ≡ write hard.old 0 size (negative_at llrs.now soft.now) }
+fn decide_signs(llrs: &[i16], soft: &[i32], hard: &mut [u8]) -> u32
+    requires { Decidable llrs.now soft.now (length hard.old) (length hard.old) }
+    ensures value { result ≡ undecided_in (word_decisions llrs.now soft.now (length hard.old)) }
+    ensures hard_after { hard.new ≡ tabulate (length hard.old) (negative_at llrs.now soft.now) }
 {
     let mut ties: u32 = 0;
-    let mut k = 0;
-    while k < size {
+    for k in 0..hard.len() {
         let llr = llrs[k];
         let value = soft[k];
         hard[k] = negative_bit(llr, value);
         ties += tie_bit(llr, value);
-        k += 1;
     }
     ties
 }
@@ -69,28 +66,12 @@ fn hard_bit(llr: i16, soft: i32) -> u8
 }
 
 // The hard bits, by the signs of LLR plus soft.
-fn decide(llrs: &[i16], soft: &[i32], hard: &mut [u8], size: usize)
-    requires { Decidable llrs.now soft.now size (length hard.old) }
-    ensures { hard.new ≡ write hard.old 0 size (decision_at llrs.now soft.now) }
+fn decide(llrs: &[i16], soft: &[i32], hard: &mut [u8])
+    requires { Decidable llrs.now soft.now (length hard.old) (length hard.old) }
+    ensures { hard.new ≡ word_decisions llrs.now soft.now (length hard.old) }
 {
-    let mut k = 0;
-    while k < size {
-        let llr = llrs[k];
-        let value = soft[k];
-        hard[k] = hard_bit(llr, value);
-        k += 1;
-    }
-}
-
-// The payload where a bit is undecided: its K bytes are 2.
-fn leave_undecided(payload: &mut [u8], k: usize)
-    requires { k ≤ length payload.old }
-    ensures { payload.new ≡ over (replicate k 2) payload.old }
-{
-    let mut i = 0;
-    while i < k {
-        payload[i] = UNDECIDED;
-        i += 1;
+    for k in 0..hard.len() {
+        hard[k] = hard_bit(llrs[k], soft[k]);
     }
 }
 
@@ -99,14 +80,12 @@ pub fn read_payload(mask: &[u8], u: &[u8], payload: &mut [u8])
     requires { (length mask.now ≤ length u.now) × (unfrozen mask.now ≤ length payload.old) }
     ensures { payload.new ≡ over (payload_of mask.now u.now) payload.old }
 {
-    let mut i = 0;
     let mut j = 0;
-    while i < mask.len() {
-        if mask[i] == UNFROZEN {
+    for (i, byte) in mask.iter().enumerate() {
+        if *byte == UNFROZEN {
             payload[j] = u[i];
             j += 1;
         }
-        i += 1;
     }
 }
 
@@ -125,88 +104,68 @@ fn frozen_check(mask: &[u8], u: &[u8]) -> u8
     ensures { result ≡ bit (frozen_match mask.now u.now) }
 {
     let mut most: u8 = 0;
-    let mut i = 0;
-    while i < mask.len() {
-        most = larger(most, wrong_bit(mask[i], u[i]));
-        i += 1;
+    for (i, byte) in mask.iter().enumerate() {
+        most = larger(most, wrong_bit(*byte, u[i]));
     }
     (most == 0) as u8
 }
 
-// The first bytes of `from`, as many as `size` says, to the front of `to`.
-fn copy_bytes(from: &[u8], to: &mut [u8], size: usize)
-    requires { (size ≤ length from.now) × (size ≤ length to.old) }
-    ensures { to.new ≡ over (take size from.now) to.old }
-{
-    let mut i = 0;
-    while i < size {
-        to[i] = from[i];
-        i += 1;
-    }
-}
-
-// The payload of a word of N bits that stands in the front of u, all decided; answers the frozen check. The decoded u, its transform, takes the word's
+// The payload of a word of N bits, all decided; answers the frozen check. The decoded u, its transform, takes the word's
 // place. Here and below `stage` is the exponent of N.
-fn read_word(mask: &[u8], payload: &mut [u8], u: &mut [u8], size: usize, stage: usize) -> u8
-    requires { WordRoom mask.now stage size (length u.old) (length payload.old) × AllBits (take size u.old) }
-    ensures word_read { WordRead mask.now stage (take size u.old) payload.old payload.new result }
-    ensures u_after { u.new ≡ over (encoding.transform stage (take size u.old)) u.old }
+fn read_word(mask: &[u8], payload: &mut [u8], u: &mut [u8], stage: usize) -> u8
+    requires { WordRoom mask.now stage (length u.old) (length u.old) (length payload.old) × AllBits u.old }
+    ensures word_read { WordRead mask.now stage u.old payload.old payload.new result }
+    ensures u_after { u.new ≡ encoding.transform stage u.old }
 {
-    strides(&mut u[..size], stage);
+    strides(u, stage);
     read_payload(mask, u, payload);
     frozen_check(mask, u)
 }
 
 // The same of a hard word that stays as it is, through a buffer for the decoded u.
-fn read_through(
-    mask: &[u8],
-    hard: &[u8],
-    payload: &mut [u8],
-    u: &mut [u8],
-    size: usize,
-    stage: usize,
-) -> u8
-    requires word_room { WordRoom mask.now stage size (length hard.now) (length payload.old) × (size ≤ length u.old) }
-    requires all_bits { AllBits (take size hard.now) }
-    ensures { WordRead mask.now stage (take size hard.now) payload.old payload.new result }
+fn read_through(mask: &[u8], hard: &[u8], payload: &mut [u8], u: &mut [u8], stage: usize) -> u8
+    requires word_room { WordRoom mask.now stage (length hard.now) (length u.old) (length payload.old) }
+    requires all_bits { (length u.old ≡ length hard.now) × AllBits hard.now }
+    ensures { WordRead mask.now stage hard.now payload.old payload.new result }
 {
-    copy_bytes(hard, u, size);
-    read_word(mask, payload, u, size, stage)
+    u.copy_from_slice(hard);
+    read_word(mask, payload, u, stage)
 }
 
 // The same with a buffer of its own. A word of up to 64 bits has a short one, since clearing the long one would cost it
 // more than the rest.
-fn read_copied(mask: &[u8], hard: &[u8], payload: &mut [u8], size: usize, stage: usize) -> u8
-    requires word_room { WordRoom mask.now stage size (length hard.now) (length payload.old) }
-    requires all_bits { AllBits (take size hard.now) }
-    ensures { WordRead mask.now stage (take size hard.now) payload.old payload.new result }
+fn read_copied(mask: &[u8], hard: &[u8], payload: &mut [u8], stage: usize) -> u8
+    requires word_room { WordRoom mask.now stage (length hard.now) (length hard.now) (length payload.old) }
+    requires all_bits { AllBits hard.now }
+    ensures { WordRead mask.now stage hard.now payload.old payload.new result }
 {
+    let size = hard.len();
     if size <= 64 {
         let mut short = [0u8; 64];
-        return read_through(mask, hard, payload, &mut short, size, stage);
+        return read_through(mask, hard, payload, &mut short[..size], stage);
     }
     let mut long = [0u8; 1024];
-    read_through(mask, hard, payload, &mut long, size, stage)
+    read_through(mask, hard, payload, &mut long[..size], stage)
 }
 
 // The payload of a hard word of N bits that are all decided; answers the frozen check. A word of up to 16 bits is transformed
 // where it stands and transformed back, since the transform undoes itself: that costs it less than a copy.
-fn read_decided(mask: &[u8], hard: &mut [u8], payload: &mut [u8], size: usize, stage: usize) -> u8
-    requires { WordRoom mask.now stage size (length hard.old) (length payload.old) × AllBits (take size hard.old) }
-    ensures word_read { WordRead mask.now stage (take size hard.old) payload.old payload.new result }
+fn read_decided(mask: &[u8], hard: &mut [u8], payload: &mut [u8], stage: usize) -> u8
+    requires { WordRoom mask.now stage (length hard.old) (length hard.old) (length payload.old) × AllBits hard.old }
+    ensures word_read { WordRead mask.now stage hard.old payload.old payload.new result }
     ensures hard_unchanged { hard.new ≡ hard.old }
 {
-    if 16 < size {
-        return read_copied(mask, hard, payload, size, stage);
+    if 16 < hard.len() {
+        return read_copied(mask, hard, payload, stage);
     }
-    let check = read_word(mask, payload, hard, size, stage);
-    strides(&mut hard[..size], stage);
+    let check = read_word(mask, payload, hard, stage);
+    strides(hard, stage);
     check
 }
 
 // The frozen check and the number of undecided bits.
-#[derive(Drop)]
-pub struct Result {
+#[derive(Clone, Copy)]
+pub struct ReadBits {
     pub check: u8,
     pub undecided: u16,
 }
@@ -221,21 +180,22 @@ pub fn read_off(
     size: usize,
     stage: usize,
     k: usize,
-) -> Result
+) -> ReadBits
     requires { Readable mask.now llrs.now soft.now stage size k (length hard.old) (length payload.old) }
     ensures { ReadOff mask.now stage (word_decisions llrs.now soft.now size) hard.old hard.new payload.old payload.new result.check result.undecided }
 {
-    let ties = decide_signs(llrs, soft, hard, size);
+    let hard = &mut hard[..size];
+    let ties = decide_signs(llrs, soft, hard);
     if ties == 0 {
-        let check = read_decided(mask, hard, payload, size, stage);
-        return Result {
+        let check = read_decided(mask, hard, payload, stage);
+        return ReadBits {
             check,
             undecided: 0,
         };
     }
-    decide(llrs, soft, hard, size);
-    leave_undecided(payload, k);
-    Result {
+    decide(llrs, soft, hard);
+    payload[..k].fill(UNDECIDED);
+    ReadBits {
         check: 0,
         undecided: ties as u16,
     }

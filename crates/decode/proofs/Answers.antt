@@ -1,9 +1,9 @@
 -- A decode's answer and buffers, from its steps to the definitions. Assumes nothing.
 use mathlib.Core.Path.{◌≡◌, refl, sym, ◌∙◌, ap, ap₂, subst}
-use mathlib.Core.Bool.{Bool, true, false, cond}
+use mathlib.Core.Bool.{true, false}
 use mathlib.Core.List.{List, [], ◌∷◌, ◌++◌, map}
 use Prim.Native.Nat.{ℕ, zero, suc, ◌+◌, ◌*◌, ◌^◌, ◌<◌, ◌≤◌}
-use native.Mathlib.Nat.{zero-add, mul-le-mul}
+use native.Mathlib.Nat.{zero-add}
 use native.Mathlib.Omega.{arith}
 use borrow.Author.Tests.{eq-eqb, ne_eqb, leb-true}
 use lib.Dec.{eqb, leb}
@@ -16,13 +16,15 @@ use lib.Pow.{pow_mono}
 use Rattle.model.specs.Encoding.{unfrozen}
 use Rattle.model.specs.Scan.{scan, hard_bit, hard_word, undecided_in, decided_payload, decided_check, decided, decode_scan}
 use Rattle.model.specs.Bounds.{Small, Under, limit}
-use Rattle.model.specs.Refusals.{refusal, row_1, row_2, row_3, row_4, row_5, row_6, row_7, row_11, row_12, exponent, DecodeCall, decode_number, decode_answer, decode_cycles, decode_check, decode_undecided, decode_soft, decode_hard, decode_payload, decode_work}
+use Rattle.model.specs.Refusals.{Test, refusal, row_1, row_2, row_3, row_4, row_5, row_6, row_7, row_11, row_12, exponent, DecodeCall, decode_number, decode_answer, decode_cycles, decode_check, decode_undecided, decode_soft, decode_hard, decode_payload, decode_work}
 use Rattle.model.proofs.Lists.{length_tabulate, tabulate_same, tabulate_ext}
 use Rattle.model.proofs.Bounds.{soft-under, cap-limit, under_mono}
 use Rattle.model.proofs.Flips.{length-soft}
-use Rattle.model.proofs.Refusals.{refusal_then, passes, llrs-small}
+use Rattle.model.proofs.Refusals.{passes, llrs-small}
 use Rattle.model.proofs.Theorems.{cycles-most}
-use Rattle.inputs.proofs.Rows.{passed-few}
+use Rattle.inputs.specs.declared.Refusal.{Refusal}
+use Rattle.inputs.specs.Numbers.{refusal_number}
+use Rattle.inputs.proofs.Rows.{refusal_not_zero, refused_then, passed_then, passed-few}
 use Rattle.words.specs.Words.{word, write, stored}
 use Rattle.words.proofs.Laws.{soft-fin, soft-word}
 use Rattle.words.proofs.Store.{write_in, length-write}
@@ -78,23 +80,23 @@ module _ (g : Given) where
   abbrev n : ℕ
   n = exponent (length mask)
 
-  -- the tests of room
+  -- the tests of the inputs, and those of room
+  abbrev input_rows : List Test
+  input_rows = row_1 N ∷ row_2 mask ∷ row_3 (length llrs) N ∷ row_4 k ∷ row_5 n plan ∷ row_6 n plan mask ∷ row_7 llrs ∷ []
+
+  abbrev room_rows : List Test
+  room_rows = row_11 N (length soft) ∷ row_11 N (length hard) ∷ row_11 (unfrozen mask) (length payload) ∷ row_12 (N * (n + 3)) (length work) ∷ []
+
   abbrev pub room_number : ℕ
-  room_number = refusal (row_11 N (length soft) ∷ row_11 N (length hard) ∷ row_11 (unfrozen mask) (length payload) ∷ row_12 (N * (n + 3)) (length work) ∷ [])
+  room_number = refusal room_rows
 
-  number-split : decode_number call ≡ cond (eqb (input_number mask plan k llrs) 0) room_number (input_number mask plan k llrs)
+  pub input-refused : (r : Refusal) → refusal_number r ≡ input_number mask plan k llrs → refusal_number r ≡ decode_number call
   unfolding decode_number input_number
-  number-split =
-      refusal_then (row_1 N ∷ row_2 mask ∷ row_3 (length llrs) N ∷ row_4 k ∷ row_5 n plan ∷ row_6 n plan mask ∷ row_7 llrs ∷ [])
-      (row_11 N (length soft) ∷ row_11 N (length hard) ∷ row_11 (unfrozen mask) (length payload) ∷ row_12 (N * (n + 3)) (length work) ∷ []) tt
+  input-refused r e = sym (refused_then input_rows room_rows r tt e)
 
-  pub number_input : {number : ℕ} → number ≡ input_number mask plan k llrs → (number ≡ 0 → ⊥) → number ≡ decode_number call
-  number_input e h =
-      e ∙ sym (number-split ∙ ap (λ (b : Bool). cond b room_number (input_number mask plan k llrs)) (ne_eqb (input_number mask plan k llrs) 0 (λ z. h (e ∙ z))))
-
-  pub number-room : {number : ℕ} → 0 ≡ input_number mask plan k llrs → number ≡ room_number → number ≡ decode_number call
-  number-room z e =
-      e ∙ sym (number-split ∙ ap (λ (b : Bool). cond b room_number (input_number mask plan k llrs)) (eq-eqb (input_number mask plan k llrs) 0 (sym z)))
+  pub number-room : 0 ≡ input_number mask plan k llrs → room_number ≡ decode_number call
+  unfolding decode_number input_number
+  number-room z = sym (passed_then input_rows room_rows tt z)
 
   -- the room tests as the code makes them, with its K and n
   pub room-is : {cycles t count : ℕ} → Passed mask plan k llrs cycles t → count ≡ unfrozen mask
@@ -103,15 +105,15 @@ module _ (g : Given) where
       ap₂ (λ (x y : ℕ). refusal (row_11 N (length soft) ∷ row_11 N (length hard) ∷ row_11 x (length payload) ∷ row_12 (N * (y + 3)) (length work) ∷ [])) e p.mask-passed.stage_is
 
   -- ---- a refused call
-  pub refused-outcome : {number : ℕ} → (number ≡ 0 → ⊥) → number ≡ decode_number call → {r c d u : ℕ} → r ≡ number → c ≡ 0 → d ≡ 0 → u ≡ 0 → Outcome g g.buffers r c d u
+  pub refused-outcome : (r : Refusal) → refusal_number r ≡ decode_number call → Outcome g g.buffers (refusal_number r) 0 0 0
   unfolding decode_cycles decode_check decode_undecided decode_soft decode_hard decode_payload decode_work
-  refused-outcome h e er ec ed eu =
-      let b : eqb (decode_number call) 0 ≡ false = ne_eqb (decode_number call) 0 (λ z. h (e ∙ z)) in
+  refused-outcome r e =
+      let b : eqb (decode_number call) 0 ≡ false = ne_eqb (decode_number call) 0 (λ z. refusal_not_zero r (e ∙ z)) in
       record {
-        number_is = er ∙ e;
-        cycles-is = ec ∙ sym (rw b);
-        check-is = ed ∙ sym (rw b);
-        undecided-is = eu ∙ sym (rw b);
+        number_is = e;
+        cycles-is = sym (rw b);
+        check-is = sym (rw b);
+        undecided-is = sym (rw b);
         left = record { soft-is = sym (rw b); hard-is = sym (rw b); payload-is = sym (rw b); work-is = sym (rw b) };
       }
 
@@ -227,17 +229,16 @@ module _ (g : Given) where
           accept : eqb (decode_number call) 0 ≡ true
           accept = eq-eqb (decode_number call) 0 (sym zero_is)
 
-          pub accepted-outcome : {r c d u check undecided : ℕ} {hard' payload' : List ℕ} {work' : List ℤ} → r ≡ 0 → c ≡ k * cycles → d ≡ check → u ≡ undecided
-              → (known : List ℕ) → length known ≡ N
+          pub accepted-outcome : {check undecided : ℕ} {hard' payload' : List ℕ} {work' : List ℤ} → (known : List ℕ) → length known ≡ N
               → ReadOff mask t (word_decisions llrs soft' N) (known ++ drop N hard) hard' payload payload' check undecided
               → work' ≡ write work 0 (N * (t + 3)) (λ i. pos 0)
-              → Outcome g (lent soft' hard' payload' work') r c d u
+              → Outcome g (lent soft' hard' payload' work') 0 (k * cycles) check undecided
           unfolding decode_cycles decode_check decode_undecided decode_soft decode_hard decode_payload decode_work decode_scan decided
-          accepted-outcome er ec ed eu known long off ew = record {
-            number_is = er ∙ zero_is;
-            cycles-is = ec ∙ ap (λ (m : ℕ). k * m) (p.cycles-is ∙ ap (λ (m : ℕ). plans.cycles plan m 1 mask) p.mask-passed.stage_is) ∙ sym (rw accept);
-            check-is = ed ∙ off.check-is ∙ ap (decided_check t mask) decisions_are ∙ sym (rw accept (ap (λ a. a.check) answer-is));
-            undecided-is = eu ∙ off.undecided-is ∙ ap undecided_in decisions_are ∙ sym (rw accept (ap (λ a. a.undecided) answer-is));
+          accepted-outcome known long off ew = record {
+            number_is = zero_is;
+            cycles-is = ap (λ (m : ℕ). k * m) (p.cycles-is ∙ ap (λ (m : ℕ). plans.cycles plan m 1 mask) p.mask-passed.stage_is) ∙ sym (rw accept);
+            check-is = off.check-is ∙ ap (decided_check t mask) decisions_are ∙ sym (rw accept (ap (λ a. a.check) answer-is));
+            undecided-is = off.undecided-is ∙ ap undecided_in decisions_are ∙ sym (rw accept (ap (λ a. a.undecided) answer-is));
             left = record {
               soft-is = es ∙ stored-front soft N (scan t mask (map finite llrs) k) (length-soft t mask (map finite llrs) k ∙ sym p.mask-passed.sized) soft-room
                   ∙ sym (rw accept (ap (λ a. over (map word_of a.soft) soft) answer-is));
@@ -248,12 +249,6 @@ module _ (g : Given) where
                   ∙ ap (λ (l : List ℤ). over l work) (tabulate_same (N * (n + 3)) (pos 0)) ∙ sym (rw accept);
             };
           }
-
--- N(n + 3) words can be counted
-pub words-fit : {mask plan : List ℕ} {k : ℕ} {llrs : List ℤ} {cycles t : ℕ} → Passed mask plan k llrs cycles t → (t + 3 ≤ 13) × (length mask * (t + 3) ≤ 1024 * 13)
-words-fit {mask} {t = t} p =
-    let low : t + 3 ≤ 13 = omega (arith, p.mask-passed.low) in
-    (low, mul-le-mul (passed-few p.mask-passed) low)
 
 -- the cycles of one sweep are few
 pub cycles-small : {mask plan : List ℕ} {k : ℕ} {llrs : List ℤ} {cycles t : ℕ} → Passed mask plan k llrs cycles t → cycles ≤ 4096

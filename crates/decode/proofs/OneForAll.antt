@@ -1,4 +1,4 @@
--- Request No. 10 of two calls of the decoder: one word stands for all. Assumes nothing.
+-- Two calls of the decoder, the second with the LLRs negated where an encoded word has a 1: one word stands for all. Assumes nothing.
 use mathlib.Core.Path.{◌≡◌, sym, ◌∙◌, ap, subst}
 use mathlib.Core.Bool.{Bool, true, cond}
 use mathlib.Core.List.{List, map}

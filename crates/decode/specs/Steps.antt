@@ -1,8 +1,11 @@
 -- What the parts of a decode require and find. Assumes nothing.
-use Rattle.std.specs.Prelude.{◌≡◌, Bool, not, List, [], ◌∷◌, ℕ, ◌≤◌, ◌<◌, T, ℤ, length}
+use Rattle.std.specs.Prelude.{◌≡◌, not, List, [], ◌∷◌, ℕ, ◌≤◌, ◌<◌, T, ℤ, length, Result, IfOk}
 use Rattle.model.specs.Lists.{at_most}
 use Rattle.model.specs.Plans.{Allowed}
 use Rattle.model.specs.Refusals.{refusal, row_1, row_2, row_3, row_4, row_5, row_6, row_7, exponent, max_sweeps, llrs_in_range}
+use Rattle.inputs.specs.declared.Masked.{Masked}
+use Rattle.inputs.specs.declared.Refusal.{Refusal}
+use Rattle.inputs.specs.Numbers.{number_of}
 use Rattle.inputs.specs.Tests.{MaskPassed}
 use Rattle.model.specs.Plans as plans
 
@@ -24,7 +27,6 @@ pub record Passed (mask plan : List ℕ) (sweeps : ℕ) (llrs : List ℤ) (cycle
   pub cycles-is : cycles ≡ plans.cycles plan stage 1 mask
 
 -- what the tests of the inputs find; `ones` says whether a position is frozen to 1
-pub record InputTests (mask plan : List ℕ) (sweeps : ℕ) (llrs : List ℤ) (number cycles stage : ℕ) (ones : Bool) : Type 0 where
-  pub number_is : number ≡ input_number mask plan sweeps llrs
-  pub passed : number ≡ 0 → Passed mask plan sweeps llrs cycles stage
-  pub ones_is : number ≡ 0 → ones ≡ not (at_most 1 mask)
+pub record InputTests (mask plan : List ℕ) (sweeps : ℕ) (llrs : List ℤ) (result : Result (Masked × ℕ) Refusal) : Type 0 where
+  pub number_is : number_of result ≡ input_number mask plan sweeps llrs
+  pub passed : IfOk result (λ found. Passed mask plan sweeps llrs found.1 found.0.stage × (found.0.ones ≡ not (at_most 1 mask)))

@@ -1,4 +1,4 @@
--- Request No. 10 of two calls of the decoder, the second with the LLRs negated where an encoded word has a 1: what both answer and leave. Assumes nothing.
+-- Two calls of the decoder, the second with the LLRs negated where an encoded word has a 1: what both answer and leave. Assumes nothing.
 use Rattle.std.specs.Prelude.{◌≡◌, List, ℕ, ◌<◌, neg_ℤ, nat_abs, length, get_or, take}
 use Rattle.model.specs.Lists.{on_ones}
 use Rattle.model.specs.Soft.{mark}

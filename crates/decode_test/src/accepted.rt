@@ -3,13 +3,14 @@ ghost use Rattle.std.specs.Prelude.{◌≤◌};
 
 use crate::calls::{Lengths, check_front, decode_front, encode_front, plan_front};
 use crate::refusals::{WRONG_CUTS, call_right};
+use inputs::Refusal;
 use reference::cases::{Case, draw_llrs, draw_mask, shorts};
 use reference::nodes::{draw_plan, find_kinds, judge};
-use reference::outputs::{Outputs, draw_outputs, same_outputs};
+use reference::outputs::{Outputs, draw_outputs};
 use test_tools::buffers::{
     Bytes, byte_at, draw_bits, draw_bytes, same_bytes, same_front, unfrozen, with_byte,
 };
-use test_tools::numbers::{bit_if, both, least, length_of, next};
+use test_tools::numbers::{bit_if, least, length_of, next};
 
 // N (n + 3), the words of a workspace.
 pub fn words_for(stage: usize) -> usize
@@ -36,17 +37,6 @@ fn accepted_lengths(stage: usize, sweeps: usize, k: usize, extra: u32) -> Length
     }
 }
 
-pub fn same_counts(a: [u32; 8], b: [u32; 8]) -> bool {
-    let mut i = 0;
-    while i < 8 {
-        if a[i] != b[i] {
-            return false;
-        }
-        i += 1;
-    }
-    true
-}
-
 // Whether the planner's plan and counts are those found here, and its bytes past the plan stay.
 fn planner_right(mask: Bytes, kinds: Bytes, stage: usize, seed: u32) -> bool {
     let n = length_of(stage);
@@ -57,17 +47,14 @@ fn planner_right(mask: Bytes, kinds: Bytes, stage: usize, seed: u32) -> bool {
     let counts = got.counts;
     let plan = got.plan;
     let want_counts = found.counts;
-    both(
-        both(got.number == 0, same_counts(counts, want_counts)),
-        same_bytes(plan, want),
-    )
+    got.number == 0 && counts == want_counts && same_bytes(plan, want)
 }
 
 // Whether the check of an allowed plan has number 0 and the model's cycles.
 fn check_right(mask: Bytes, stage: usize, plan: Bytes, cycles: u32) -> bool {
     let n = length_of(stage);
     let answer = check_front(mask, n, plan, 2 * n);
-    both(answer.number == 0, answer.cycles == cycles)
+    answer == Ok(cycles)
 }
 
 fn wide(x: u32) -> usize {
@@ -79,10 +66,7 @@ fn is_product(total: u32, sweeps: usize, cycles: u32) -> bool {
     if sweeps == 0 {
         return false;
     }
-    both(
-        wide(total) % sweeps == 0,
-        wide(total) / sweeps == wide(cycles),
-    )
+    wide(total) % sweeps == 0 && wide(total) / sweeps == wide(cycles)
 }
 
 // What a decode left, and whether planner, check and decoder were right.
@@ -102,9 +86,9 @@ fn try_decode(c: Case, mask: Bytes, plan: Bytes, cycles: u32, llrs: [u64; 1024])
     let used = words_for(c.stage);
     let got = decode_front(lengths, mask, plan, shorts(llrs), before, used, c.seed);
     let out = got.out;
-    let answered = both(got.number == 0, is_product(got.cycles, c.sweeps, cycles));
+    let answered = got.number == 0 && is_product(got.cycles, c.sweeps, cycles);
     Tried {
-        right: both(both(answered, got.work), same_outputs(out, want)),
+        right: answered && got.work && out == want,
         cycles: got.cycles,
         out,
     }
@@ -123,7 +107,7 @@ pub fn try_case(c: Case, given: Bytes) -> Tried {
     let tried = try_decode(c, mask, plan, found.cycles, llrs);
     let out = tried.out;
     Tried {
-        right: both(both(planned, checked), tried.right),
+        right: planned && checked && tried.right,
         cycles: tried.cycles,
         out,
     }
@@ -153,13 +137,11 @@ fn word_right(c: Case, word: Bytes, sent: Bytes, k: usize) -> bool {
     let out = tried.out;
     let hard = out.hard;
     let payload = out.payload;
-    both(
-        both(tried.right, both(out.check == 1, out.undecided == 0)),
-        both(
-            same_front(hard, word, length_of(c.stage)),
-            same_front(payload, sent, k),
-        ),
-    )
+    tried.right
+        && out.check == 1
+        && out.undecided == 0
+        && same_front(hard, word, length_of(c.stage))
+        && same_front(payload, sent, k)
 }
 
 // A drawn payload, encoded, with LLRs of drawn sizes and the word's signs.
@@ -170,7 +152,7 @@ pub fn sign_case(c: Case) -> bool {
     let sent = draw_bits(k, next(c.seed));
     let coded = encode_front(mask, n, sent, k, draw_bytes(n, c.seed));
     let word = coded.word;
-    both(coded.done, word_right(c, word, sent, k))
+    coded.done && word_right(c, word, sent, k)
 }
 
 // ---- plans with some bytes changed
@@ -194,10 +176,8 @@ fn plan_refused(c: Case, mask: Bytes, plan: Bytes) -> bool {
     let n = length_of(c.stage);
     let lengths = accepted_lengths(c.stage, c.sweeps, n, c.seed);
     let answer = check_front(mask, n, plan, 2 * n);
-    both(
-        both(answer.number == 6, answer.cycles == 0),
-        call_right(lengths, WRONG_CUTS, c.seed, mask, plan, [0; 2056]),
-    )
+    answer == Err(Refusal::PlanCuts)
+        && call_right(lengths, WRONG_CUTS, c.seed, mask, plan, [0; 2056])
 }
 
 // A plan with up to three changed bytes is accepted or refused.

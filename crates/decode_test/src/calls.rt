@@ -1,9 +1,10 @@
 // The calls under test, on the first elements of buffers.
 use decode::Decoded;
-use plans::Checked;
+use inputs::Refusal;
+use planner::Planned;
 use reference::outputs::Outputs;
 use test_tools::buffers::{Bytes, bytes, draw_words, lent_bytes, lent_words, shorts, words_stay};
-use test_tools::numbers::choose;
+use test_tools::numbers::{choose, number_of};
 
 // The lengths that a decode is called with, and its sweeps.
 #[derive(Clone, Copy)]
@@ -37,7 +38,7 @@ fn decode_lent(
     hard: &mut [u8],
     payload: &mut [u8],
     work: &mut [i32],
-) -> Decoded {
+) -> Result<Decoded, Refusal> {
     decode::decode(
         bytes(mask, lengths.mask),
         bytes(plan, lengths.plan),
@@ -75,22 +76,27 @@ pub fn decode_front(
         &mut payload,
         &mut work,
     );
-    let cleared = choose(answer.number == 0, used, 0);
+    let cleared = choose(answer.is_ok(), used, 0);
+    let decoded = answer.unwrap_or(Decoded {
+        cycles: 0,
+        check: 0,
+        undecided: 0,
+    });
     Got {
-        number: answer.number,
-        cycles: answer.cycles,
+        number: number_of(&answer),
+        cycles: decoded.cycles,
         work: words_stay(&work, cleared, lengths.work, seed),
         out: Outputs {
             soft,
             hard,
             payload,
-            check: answer.check,
-            undecided: answer.undecided as usize,
+            check: decoded.check,
+            undecided: decoded.undecided as usize,
         },
     }
 }
 
-// What a planner's call answered and left.
+// What a planner's call answered and left; the counts of a refused call are 0.
 #[derive(Drop)]
 pub struct Plan {
     pub number: u32,
@@ -101,15 +107,20 @@ pub struct Plan {
 pub fn plan_front(mask: Bytes, n: usize, before: Bytes, room: usize) -> Plan {
     let mut plan = before;
     let answer = planner::plan_mask(bytes(&mask, n), lent_bytes(&mut plan, room));
-    let counts = answer.counts;
+    let none = [0u32; 8];
+    let planned = answer.unwrap_or(Planned {
+        counts: none,
+        cycles: 0,
+    });
+    let counts = planned.counts;
     Plan {
-        number: answer.number,
+        number: number_of(&answer),
         counts,
         plan,
     }
 }
 
-pub fn check_front(mask: Bytes, n: usize, plan: Bytes, size: usize) -> Checked {
+pub fn check_front(mask: Bytes, n: usize, plan: Bytes, size: usize) -> Result<u32, Refusal> {
     plans::check_plan(bytes(&mask, n), bytes(&plan, size))
 }
 
@@ -128,7 +139,7 @@ pub fn encode_front(mask: Bytes, n: usize, payload: Bytes, k: usize, before: Byt
         lent_bytes(&mut word, n),
     );
     Word {
-        done: answer == 0,
+        done: answer.is_ok(),
         word,
     }
 }

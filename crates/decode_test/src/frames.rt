@@ -3,7 +3,7 @@ use crate::accepted::try_case;
 use reference::cases::{Case, mask_number};
 use reference::outputs::Outputs;
 use test_tools::buffers::{extended, same_front, same_words};
-use test_tools::numbers::{both, length_of};
+use test_tools::numbers::length_of;
 
 const INF: i32 = 2147483647;
 
@@ -93,10 +93,10 @@ fn line_right(out: Outputs) -> bool {
     let payload = out.payload;
     let word = extended([0, 1, 0, 1, 0, 1, 0, 1]);
     let sent = extended([0, 0, 1, 1, 0, 0, 0, 0]);
-    both(
-        both(out.check == 1, out.undecided == 0),
-        both(same_front(hard, word, 8), same_front(payload, sent, 4)),
-    )
+    out.check == 1
+        && out.undecided == 0
+        && same_front(hard, word, 8)
+        && same_front(payload, sent, 4)
 }
 
 // The case of a frame's mask and sweeps; it is given the LLRs.
@@ -118,7 +118,7 @@ fn decode_frame(i: usize, f: Frame) -> bool {
     let want = f.soft;
     let tried = try_case(case_of(f), extended(llrs));
     let out = tried.out;
-    if !both(tried.right, tried.cycles == f.cycles) {
+    if !(tried.right && tried.cycles == f.cycles) {
         return false;
     }
     if !soft_right(out, want, length_of(f.stage)) {

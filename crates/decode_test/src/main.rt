@@ -140,10 +140,7 @@ fn other_right(group: usize, stage: usize, i: usize) -> bool {
 
 // Whether a group has decodes of drawn LLRs.
 fn has_drawn_llrs(group: usize) -> bool {
-    match group {
-        1 | 2 | 3 => true,
-        _ => false,
-    }
+    matches!(group, 1 | 2 | 3)
 }
 
 // How a case comes out.
@@ -213,12 +210,10 @@ fn count_cases(rt: &impl Print, group: usize, stage: usize, count: usize) -> io:
 {
     let mut right = 0;
     let mut undecided = 0;
-    let mut i = 0;
-    while i < count {
+    for i in 0..count {
         let case = shown(rt, group, stage, i)?;
         right += one_if(case.right);
         undecided += one_if(case.undecided);
-        i += 1;
     }
     Ok(Counts { right, undecided })
 }
@@ -244,13 +239,11 @@ fn report_group(rt: &impl Print, group: usize, stages: usize, count: usize) -> i
     let mut right = 0;
     let mut undecided = 0;
     let mut all = 0;
-    let mut stage = 1;
-    while stage <= stages {
+    for stage in 1..=stages {
         let c = count_cases(rt, group, stage, count)?;
         right += c.right;
         undecided += c.undecided;
         all += count;
-        stage += 1;
     }
     report_line(rt, group, Counts { right, undecided }, all)
 }
@@ -269,12 +262,10 @@ fn drawn_count(stage: usize) -> usize
 
 // One line for each N.
 fn report_drawn(rt: &impl Print) -> io::Result<()> {
-    let mut stage = 1;
-    while stage <= 10 {
+    for stage in 1..=10 {
         let count = drawn_count(stage);
         print_number(rt, b"N ", length_of(stage))?;
         report_line(rt, DRAWN, count_cases(rt, DRAWN, stage, count)?, count)?;
-        stage += 1;
     }
     Ok(())
 }

@@ -5,19 +5,24 @@
 // A variant, 0 to 11, chooses among the ways to have a fault.
 ghost use Rattle.std.specs.Prelude.{◌<◌, ◌≤◌};
 
-use crate::accepted::{same_counts, words_for};
+use crate::accepted::words_for;
 use crate::calls::{Lengths, check_front, decode_front, plan_front};
 use reference::cases::{Case, draw_llrs, draw_mask, shorts};
 use reference::nodes::draw_plan;
-use reference::outputs::{draw_outputs, same_outputs};
+use reference::outputs::draw_outputs;
 use test_tools::buffers::{Bytes, draw_bytes, same_bytes, unfrozen, with_byte};
 use test_tools::faults::has;
-use test_tools::numbers::{bit_if, both, choose, is_length, length_of, minus, one_if};
+use test_tools::numbers::{bit_if, choose, is_length, length_of, minus, number_of, one_if};
 
 // The set of fault 5 alone.
 pub const WRONG_CUTS: usize = 32;
 
-// The number of the first fault in document 01, or 0.
+// Bytes that no mask has, and those that no plan has.
+const WRONG_MASK_BYTES: [u8; 4] = [3, 4, 128, 255];
+
+const WRONG_PLAN_BYTES: [u8; 4] = [2, 3, 128, 255];
+
+// The number of the first fault in the order in which calls are tested, or 0.
 fn first_number(faults: usize) -> u32 {
     match usize::trailing_zeros(faults) {
         0 => 1,
@@ -61,24 +66,6 @@ fn wrong_length(n: usize, variant: usize) -> usize
     pick(variant, n - 1, n + 1, 0, n + n / 2)
 }
 
-fn wrong_mask_byte(variant: usize) -> u8 {
-    match variant % 4 {
-        0 => 3,
-        1 => 4,
-        2 => 128,
-        _ => 255,
-    }
-}
-
-fn wrong_plan_byte(variant: usize) -> u8 {
-    match variant % 4 {
-        0 => 2,
-        1 => 3,
-        2 => 128,
-        _ => 255,
-    }
-}
-
 fn wrong_sweeps(variant: usize) -> usize {
     pick(variant, 0, 9, 16, 65537)
 }
@@ -104,7 +91,7 @@ fn spoil_form(plan: Bytes, n: usize, variant: usize) -> Bytes
     }
     if variant < 8 {
         let p = pick(variant, 1, n, 2 * n - 1, n / 2);
-        return with_byte(plan, p, wrong_plan_byte(variant));
+        return with_byte(plan, p, WRONG_PLAN_BYTES[variant % 4]);
     }
     with_byte(plan, 0, 1)
 }
@@ -159,7 +146,7 @@ fn faulty_mask(stage: usize, faults: usize, variant: usize, seed: u32) -> Bytes 
     let first = with_byte(draw_mask(c), 0, bit_if(!no_kind));
     let mask = with_byte(first, 1, bit_if(no_kind));
     if has(faults, 1) {
-        with_byte(mask, spot(variant, n), wrong_mask_byte(variant))
+        with_byte(mask, spot(variant, n), WRONG_MASK_BYTES[variant % 4])
     } else {
         mask
     }
@@ -221,7 +208,7 @@ pub fn call_right(
     if faults == 0 {
         return true;
     }
-    both(both(got.work, got.cycles == 0), same_outputs(out, before))
+    got.work && got.cycles == 0 && out == before
 }
 
 // A decode with faults.
@@ -247,10 +234,8 @@ pub fn check_refusal(stage: usize, faults: usize, variant: usize, seed: u32) -> 
     let plan = faulty_plan(stage, faults, variant);
     let lengths = faulty_lengths(stage, 0, faults, variant);
     let answer = check_front(mask, lengths.mask, plan, lengths.plan);
-    both(
-        answer.number == first_number(faults),
-        answer.cycles as usize == leaf_cycles(faults, length_of(stage)),
-    )
+    number_of(&answer) == first_number(faults)
+        && answer.unwrap_or(0) as usize == leaf_cycles(faults, length_of(stage))
 }
 
 // Whether a planner's call has the number of its faults, and a refused one no counts and leaves the buffer.
@@ -265,7 +250,7 @@ fn planner_refused(mask: Bytes, n: usize, room: usize, faults: usize, seed: u32)
     if faults == 0 {
         return true;
     }
-    both(same_counts(counts, [0; 8]), same_bytes(plan, before))
+    counts == [0; 8] && same_bytes(plan, before)
 }
 
 // A planner's call with faults 0, 1 and 7.
@@ -297,11 +282,7 @@ pub fn length_case(n: usize, seed: u32) -> bool
     };
     let faults = one_if(!is_length(n));
     let answer = check_front(mask, n, plan, 2 * n);
-    both(
-        both(
-            answer.number == first_number(faults),
-            planner_refused(mask, n, 2 * n, faults, seed),
-        ),
-        call_right(lengths, faults, seed, mask, plan, [0; 2056]),
-    )
+    number_of(&answer) == first_number(faults)
+        && planner_refused(mask, n, 2 * n, faults, seed)
+        && call_right(lengths, faults, seed, mask, plan, [0; 2056])
 }

@@ -1,16 +1,15 @@
 -- The lines by the steps of the code, and how long they are. Assumes nothing.
-use mathlib.Core.Path.{◌≡◌, refl, sym, ap}
+use mathlib.Core.Path.{◌≡◌, sym, ap}
 use mathlib.Core.List.{List, [], ◌∷◌, ◌++◌, append-nil, append_assoc}
 use Prim.Native.Nat.{ℕ, suc, ◌+◌, ◌-◌, ◌^◌, ◌≤◌, ◌<◌}
 use native.Mathlib.Numerals.{add-one}
 use native.Mathlib.Omega.{arith}
-use lib.ListN.{length, length-append}
-use borrow.Author.Tests.{eq-eqb, ne_eqb}
+use lib.ListN.{length, get_or, length-append, get_or-map}
 use Rattle.model.specs.Captures.{Totals}
 use Rattle.printer.specs.Text.{nat_text, spaced, line_text}
-use Rattle.printer.specs.Put.{Put}
 use Rattle.printer.proofs.Sizes.{nat_length}
-use Rattle.drains.specs.Text.{drain_text, drain_line, drains_text, max_drain_line}
+use Rattle.drains.specs.declared.Totals.{Totals as DrainTotals}
+use Rattle.drains.specs.Text.{drain_text, drain_line, drains_text, totals_in, max_drain_line}
 
 -- ---- one line
 
@@ -28,7 +27,7 @@ drain-pieces drain frames checks differ cycles =
     ap (λ (r : List ℕ). nat_text drain ++ (32 ∷ r)) (sym (feed_in (nat_text frames) (nat_text checks) (nat_text differ) (nat_text cycles)))
 
 -- a number of 64 bits has at most 20 digits
-twenty : (n : ℕ) → n < 2 ^ 64 → length (nat_text n) ≤ 20
+pub twenty : (n : ℕ) → n < 2 ^ 64 → length (nat_text n) ≤ 20
 twenty n h = nat_length 19 n (omega (arith, h))
 
 pieces-length : (d f c x y : List ℕ) → length (pieces d f c x y) ≡ length d + length f + length c + length x + length y + 5
@@ -42,30 +41,14 @@ pieces-length d f c x y =
       length-append y (10 ∷ []),
     )
 
-pub drain-size : {drain frames checks differ cycles : ℕ} → drain < 2 ^ 64 → frames < 2 ^ 64 → checks < 2 ^ 64 → differ < 2 ^ 64 → cycles < 2 ^ 64
-    → length (drain_text drain frames checks differ cycles) ≤ max_drain_line
-drain-size {drain} {frames} {checks} {differ} {cycles} hd hf hc hx hy =
+pub drain-size : (drain frames checks differ cycles : ℕ) → length (nat_text drain) ≤ 20 → length (nat_text frames) ≤ 20 → length (nat_text checks) ≤ 20
+    → length (nat_text differ) ≤ 20 → length (nat_text cycles) ≤ 20 → length (drain_text drain frames checks differ cycles) ≤ max_drain_line
+drain-size drain frames checks differ cycles d f c x y =
     omega (
       arith,
-      twenty drain hd,
-      twenty frames hf,
-      twenty checks hc,
-      twenty differ hx,
-      twenty cycles hy,
       ap length (drain-pieces drain frames checks differ cycles),
       pieces-length (nat_text drain) (nat_text frames) (nat_text checks) (nat_text differ) (nat_text cycles),
     )
-
--- ---- the line of a drain that occurs
-module _ (drain frames checks differ cycles : ℕ) where
-  pub occurring_none : frames ≡ 0 → [] ≡ drain_line drain frames checks differ cycles
-  occurring_none h = rw (eq-eqb frames 0 h)
-
-  pub occurring_some : (frames ≡ 0 → ⊥) → drain_text drain frames checks differ cycles ≡ drain_line drain frames checks differ cycles
-  occurring_some h = rw (ne_eqb frames 0 h)
-
-pub put-none : (o : List ℕ) (i : ℕ) → Put [] o i o i
-put-none o i = record { bytes = refl; ends = omega arith }
 
 -- ---- what is still to come after d drains
 module _ (totals : ℕ → Totals) where
@@ -79,3 +62,20 @@ module _ (totals : ℕ → Totals) where
   pub drains-end : (d : ℕ) → 64 ≤ d → drains_from d ≡ []
   unfolding drains_text
   drains-end d h = let e : 64 - d ≡ 0 = omega arith in rw e
+
+-- ---- totals that stand in one list
+
+-- of a place beyond its end
+abbrev pub no_totals : DrainTotals
+no_totals = record { frames = 0; checks = 0; differ = 0; cycles = 0 }
+
+-- what is to come after d drains begins with the line of the next
+pub listed_on : (ts : List DrainTotals) (d : ℕ) → d < 64
+    → let t : DrainTotals = get_or ts d no_totals in
+    drain_line d t.frames t.checks t.differ t.cycles ++ drains_from (totals_in ts) (d + 1) ≡ drains_from (totals_in ts) d
+listed_on ts d h =
+    let f = get_or-map (λ (t : DrainTotals). t.frames) ts d no_totals in
+    let c = get_or-map (λ (t : DrainTotals). t.checks) ts d no_totals in
+    let x = get_or-map (λ (t : DrainTotals). t.differ) ts d no_totals in
+    let y = get_or-map (λ (t : DrainTotals). t.cycles) ts d no_totals in
+    rw (← f, ← c, ← x, ← y) (drains_on (totals_in ts) d h)

@@ -1,6 +1,7 @@
 -- The text of a capture's totals: one line for each drain that occurs. Assumes nothing.
-use Rattle.std.specs.Prelude.{cond, List, [], ◌∷◌, ◌++◌, ℕ, zero, suc, ◌*◌, eqb, get_or}
+use Rattle.std.specs.Prelude.{cond, List, [], ◌∷◌, ◌++◌, map, ℕ, zero, suc, ◌*◌, eqb, get_or}
 use Rattle.model.specs.Captures.{Totals}
+use Rattle.drains.specs.declared.Totals.{Totals as DrainTotals}
 use Rattle.printer.specs.Text.{nat_text, line_text}
 
 -- a drain's line: drain, frames, frames whose frozen check is 1, hard bits that differ, cycles
@@ -19,6 +20,10 @@ drains_text (suc k) d totals = drain_line d (totals d).frames (totals d).checks 
 -- the totals of a drain that stand in four lists
 abbrev pub totals_at : List ℕ → List ℕ → List ℕ → List ℕ → ℕ → Totals
 totals_at frames checks differ cycles d = record { frames = get_or frames d 0; checks = get_or checks d 0; differ = get_or differ d 0; cycles = get_or cycles d 0 }
+
+-- the same, where one list has the totals of each drain
+abbrev pub totals_in : List DrainTotals → ℕ → Totals
+totals_in ts = totals_at (map (λ t. t.frames) ts) (map (λ t. t.checks) ts) (map (λ t. t.differ) ts) (map (λ t. t.cycles) ts)
 
 -- a line has at most this many bytes: five numbers of at most 20 digits, four spaces and a line feed
 abbrev pub max_drain_line : ℕ

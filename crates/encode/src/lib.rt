@@ -4,9 +4,10 @@
 ghost use Rattle.std.specs.Prelude.{◌≡◌, [], ◌∷◌, ◌≤◌, length};
 ghost use Rattle.model.specs.Lists.{over};
 ghost use Rattle.model.specs.Encoding.{unfrozen, place};
+ghost use Rattle.inputs.specs.Numbers.{number_of};
 ghost use Rattle.model.specs.Refusals.{refusal, row_3, row_10, row_11, encode_number, encode_word};
 
-use inputs::{UNFROZEN, at_most, known_bit, mask_tests, tested, unfrozen_of};
+use inputs::{Refusal, UNFROZEN, at_most, known_bit, mask_tests, unfrozen_of};
 use transform::strides;
 
 // The payload to the unfrozen positions in rising order, the known bits elsewhere.
@@ -15,44 +16,42 @@ fn place_bits(mask: &[u8], payload: &[u8], word: &mut [u8])
     ensures { word.new ≡ over (place mask.now payload.now) word.old }
 {
     let mut next: usize = 0;
-    let mut i: usize = 0;
-    while i < mask.len() {
-        let byte = mask[i];
+    for (i, &byte) in mask.iter().enumerate() {
         if byte == UNFROZEN {
             word[i] = payload[next];
             next += 1;
         } else {
             word[i] = known_bit(byte);
         }
-        i += 1;
     }
 }
 
 // Tests 3, 10 and 11, for N and K.
-fn payload_tests(size: usize, k: usize, payload: &[u8], room: usize) -> u32
-    ensures { result ≡ refusal (row_3 (length payload.now) k ∷ row_10 payload.now ∷ row_11 size room ∷ []) }
+#[tactic(auto, unfolding(model::specs::Refusals::refusal))]
+fn payload_tests(size: usize, k: usize, payload: &[u8], room: usize) -> Result<(), Refusal>
+    ensures { number_of result ≡ refusal (row_3 (length payload.now) k ∷ row_10 payload.now ∷ row_11 size room ∷ []) }
 {
-    let bits = at_most(payload, 1);
-    let last = tested(size <= room, 0, 11);
-    let tenth = tested(bits, last, 10);
-    tested(payload.len() == k, tenth, 3)
+    if payload.len() != k {
+        return Err(Refusal::Count);
+    }
+    if !at_most(payload, 1) {
+        return Err(Refusal::PayloadByte);
+    }
+    if room < size {
+        return Err(Refusal::ShortOutput);
+    }
+    Ok(())
 }
 
-// The word of a payload, into the first N bytes of `word`. The answer is the number.
-pub fn encode(mask: &[u8], payload: &[u8], word: &mut [u8]) -> u32
-    ensures value { result ≡ encode_number mask.now payload.now (length word.old) }
+// The word of a payload, into the first N bytes of `word`.
+pub fn encode(mask: &[u8], payload: &[u8], word: &mut [u8]) -> Result<(), Refusal>
+    ensures value { number_of result ≡ encode_number mask.now payload.now (length word.old) }
     ensures word_after { word.new ≡ encode_word mask.now payload.now word.old }
 {
-    let masked = mask_tests(mask);
-    if masked.number != 0 {
-        return masked.number;
-    }
+    let masked = mask_tests(mask)?;
     let size = mask.len();
-    let number = payload_tests(size, unfrozen_of(mask), payload, word.len());
-    if number != 0 {
-        return number;
-    }
+    payload_tests(size, unfrozen_of(mask), payload, word.len())?;
     place_bits(mask, payload, word);
     strides(&mut word[..size], masked.stage);
-    0
+    Ok(())
 }

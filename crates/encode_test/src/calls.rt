@@ -1,5 +1,6 @@
 // The calls under test, on the first bytes of buffers.
 use test_tools::buffers::{Bytes, bytes, lent_bytes};
+use test_tools::numbers::number_of;
 
 // The number that a call answered, and the buffer that it was lent.
 #[derive(Drop)]
@@ -23,7 +24,7 @@ pub fn encode_front(
         lent_bytes(&mut word, room),
     );
     Answer {
-        number: answer,
+        number: number_of(&answer),
         word,
     }
 }
@@ -32,7 +33,7 @@ pub fn transform_front(before: Bytes, n: usize) -> Answer {
     let mut word = before;
     let answer = transform::transform(lent_bytes(&mut word, n));
     Answer {
-        number: answer,
+        number: number_of(&answer),
         word,
     }
 }

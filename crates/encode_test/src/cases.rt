@@ -9,12 +9,12 @@ use test_tools::buffers::{
     with_byte,
 };
 use test_tools::faults::has;
-use test_tools::numbers::{bit_if, both, choose, choose_byte, is_length, length_of, minus, next};
+use test_tools::numbers::{bit_if, choose, choose_byte, is_length, length_of, minus, next};
 
 // Whether a call has its number and left the buffer as wanted.
 fn is_answer(got: Answer, number: u32, want: Bytes) -> bool {
     let word = got.word;
-    both(got.number == number, same_bytes(word, want))
+    got.number == number && same_bytes(word, want)
 }
 
 // ---- accepted calls
@@ -91,13 +91,9 @@ pub fn transform_case(n: usize, seed: u32) -> bool
     let once = product(before, n, before);
     let second = transform_front(once, n);
     let twice = second.word;
-    both(
-        is_answer(transform_front(before, n), 0, once),
-        both(
-            is_answer(second, 0, product(once, n, once)),
-            same_front(twice, draw_bits(n, seed), n),
-        ),
-    )
+    is_answer(transform_front(before, n), 0, once)
+        && is_answer(second, 0, product(once, n, once))
+        && same_front(twice, draw_bits(n, seed), n)
 }
 
 // Whether payload 0011 has the word under the mask.

@@ -26,10 +26,8 @@ fn right(group: usize, i: usize) -> bool {
 
 fn report_group(rt: &impl Print, group: usize, count: usize) -> io::Result<()> {
     let mut sum = 0;
-    let mut i = 0;
-    while i < count {
+    for i in 0..count {
         sum += one_if(shown(rt, right(group, i), group, i)?);
-        i += 1;
     }
     report(
         rt,

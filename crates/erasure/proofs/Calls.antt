@@ -14,6 +14,9 @@ use Rattle.model.specs.Masks.{row_16, weight_number}
 use Rattle.model.specs.Erasure.{erasure_mask, is_rate, row_20, erasure_number, erasure_mask_after}
 use Rattle.model.proofs.Refusals.{pass, passes}
 use Rattle.model.proofs.MaskCalls.{Fits, fits}
+use Rattle.inputs.specs.declared.Refusal.{Refusal}
+use Rattle.inputs.specs.Numbers.{refusal_number}
+use Rattle.inputs.proofs.Rows.{refusal_not_zero}
 
 -- the tests of an accepted call: those of a mask by weight, and the rate's
 pub measured_fits : (N K : ℕ) (z : Float) (room : ℕ) → erasure_number N K z room ≡ 0 → (is_rate z ≡ true) × Fits N K room
@@ -25,9 +28,9 @@ measured_fits N K z room e =
     (three.0, fits N K room (unfold weight_number in pass 1 _ _ one.0 (pass 16 _ _ two.0 three.1)))
 
 module _ (N K : ℕ) (z : Float) (out : List ℕ) where
-  pub refused : {number : ℕ} → number ≡ erasure_number N K z (length out) → (number ≡ 0 → ⊥) → out ≡ erasure_mask_after N K z out
+  pub refused : (r : Refusal) → refusal_number r ≡ erasure_number N K z (length out) → out ≡ erasure_mask_after N K z out
   unfolding erasure_mask_after
-  refused is n = sym (rw (ne_eqb (erasure_number N K z (length out)) 0 (λ z. n (is ∙ z))))
+  refused r is = sym (rw (ne_eqb (erasure_number N K z (length out)) 0 (λ z. refusal_not_zero r (is ∙ z))))
 
   pub written : erasure_number N K z (length out) ≡ 0 → over (erasure_mask (exponent N) K z) out ≡ erasure_mask_after N K z out
   unfolding erasure_mask_after

@@ -2,14 +2,14 @@
 use mathlib.Core.Path.{◌≡◌, refl, sym, ap, ap₂, ◌∙◌, subst}
 use mathlib.Core.Bool.{Bool, true, false, ◌&&◌, ◌||◌}
 use mathlib.Core.List.{List, [], ◌∷◌}
-use Prim.Native.Nat.{ℕ, zero, suc, ◌+◌, ◌-◌, ◌^◌, ◌≤◌, ◌<◌, zero-le}
+use Prim.Native.Nat.{ℕ, zero, suc, ◌+◌, ◌-◌, ◌^◌, ◌<◌, zero-le}
 use native.Mathlib.Decide.{dec_lt}
 use native.Mathlib.Nat.{le_refl}
 use native.Mathlib.Omega.{arith}
 use lib.Dec.{ltb, eqb}
 use lib.IntN.{pos}
 use lib.ListN.{length, take, get_or-eq_default}
-use lib.Seq.{take-length, get_or-take}
+use lib.Seq.{take-length}
 use lib.Ieee.{Float, fin, fits, lt, eq}
 use borrow.Author.Tests.{ltb-true, ltb-false, lt-ltb, le-ltb, eqb-true}
 use Rattle.model.specs.Lists.{tabulate, total, bit}
@@ -112,9 +112,6 @@ module _ (l : List Float) (G : Each Probability l) where
     pub ties_enough : m - above < tally (λ x. eq x t) l
     ties_enough = omega (arith, is, at.above, at.below, three_ways t at.probability l G)
 
-    pub above-few : above ≤ m
-    above-few = omega (arith, is, at.above)
-
     pub unfrozen-found : (i : ℕ) → i < length l → eq (value_at l i) t ≡ true → tally (λ x. eq x t) (take i l) ≡ m - above → FirstUnfrozen l m (value_at l i) i
     unfrozen-found i h e n = record {
       place = omega arith;
@@ -152,14 +149,8 @@ unfolding tabulate
 each_tabulate P zero f g = tt
 each_tabulate P (suc n) f g = (g 0, each_tabulate P n (λ i. f (suc i)) (λ i. g (suc i)))
 
--- values whose first N are the rates
-module _ (n N : ℕ) (z : Float) (values : List Float) (size : N ≡ 2 ^ n) (filled : take (2 ^ n) values ≡ tabulate (2 ^ n) (rate n z)) (good : (i : ℕ) → Probability (rate n z i)) where
-  abbrev l : List Float
-  l = take N values
-
-  same : l ≡ tabulate N (rate n z)
-  same = subst (λ (x : ℕ). take x values ≡ tabulate x (rate n z)) (sym size) filled
-
+-- values that are the rates
+module _ (n N : ℕ) (z : Float) (l : List Float) (size : N ≡ 2 ^ n) (same : l ≡ tabulate N (rate n z)) (good : (i : ℕ) → Probability (rate n z i)) where
   sized : length l ≡ N
   sized = ap length same ∙ length_tabulate N (rate n z)
 
@@ -177,16 +168,19 @@ module _ (n N : ℕ) (z : Float) (values : List Float) (size : N ≡ 2 ^ n) (fil
       go (no h) = subst Probability (sym (get_or-eq_default l nought (omega arith))) nought-probability
 
   -- what comes before the first unfrozen position is what the mask freezes
-  pub mask_is : (K : ℕ) (value : Float) (index : ℕ) → FirstUnfrozen l (N - K) value index → tabulate N (λ i. bit (comes_before (value_at values i) i value index)) ≡ erasure_mask n K z
+  pub mask_is : (K : ℕ) (value : Float) (index : ℕ) → FirstUnfrozen l (N - K) value index
+      → tabulate (length l) (λ i. bit (comes_before (value_at l i) i value index)) ≡ erasure_mask n K z
   unfolding erasure_mask
   mask_is K value index f =
-      tabulate_ext N (λ i. bit (comes_before (value_at values i) i value index)) (erasure_byte N (rate n z) (N - K)) byte ∙ ap (λ (x : ℕ). tabulate x (erasure_byte x (rate n z) (x - K))) size
+      ap (λ (x : ℕ). tabulate x (λ i. bit (comes_before (value_at l i) i value index))) sized
+      ∙ tabulate_ext N (λ i. bit (comes_before (value_at l i) i value index)) (erasure_byte N (rate n z) (N - K)) byte
+      ∙ ap (λ (x : ℕ). tabulate x (erasure_byte x (rate n z) (x - K))) size
     where
       ahead : ahead_of N (value_at l) index ≡ N - K
       ahead = sym (ap (λ (x : ℕ). ahead_of x (value_at l) index) sized) ∙ f.ahead
 
-      byte : (i : ℕ) → i < N → bit (comes_before (value_at values i) i value index) ≡ erasure_byte N (rate n z) (N - K) i
+      byte : (i : ℕ) → i < N → bit (comes_before (value_at l i) i value index) ≡ erasure_byte N (rate n z) (N - K) i
       byte i h =
-          ap₂ (λ (x y : Float). bit (comes_before x i y index)) (sym (get_or-take N values i nought h)) f.own
+          ap (λ (y : Float). bit (comes_before (value_at l i) i y index)) f.own
           ∙ first-before N (value_at l) all-good index (N - K) (omega (arith, f.place, sized)) ahead i h
           ∙ ap (λ (x : ℕ). bit (ltb x (N - K))) (ahead_ext N (value_at l) (rate n z) i here h)

@@ -1,9 +1,8 @@
 -- Rates by one more bit at a time: from those of 2 ^ k positions to those of twice as many. Assumes nothing.
-use mathlib.Core.Path.{◌≡◌, refl, sym, ap, ap₂, ◌∙◌, subst}
+use mathlib.Core.Path.{◌≡◌, refl, sym, ap, ap₂, ◌∙◌}
 use mathlib.Core.Bool.{false, cond}
 use mathlib.Core.List.{List, ◌++◌}
 use Prim.Native.Nat.{ℕ, zero, suc, ◌+◌, ◌*◌, ◌/◌, ◌%◌, ◌^◌, ◌≤◌, ◌<◌}
-use native.Mathlib.Decide.{dec_lt}
 use native.Mathlib.Numerals.{add-one}
 use native.Mathlib.Omega.{arith}
 use lib.Dec.{eqb}
@@ -100,67 +99,3 @@ pub record Passed (count : ℕ) (old now : List Float) (j : ℕ) : Type 0 where
   pub early : (i : ℕ) → i < 2 * j → value_at now i ≡ value_at old i
   pub late : (i : ℕ) → 2 * j ≤ i → i < 2 * count → value_at now i ≡ half old i
   pub rest : (i : ℕ) → 2 * count ≤ i → value_at now i ≡ value_at old i
-
-pub passed_none : (count : ℕ) (old : List Float) → Passed count old old count
-passed_none count old = record { sized = refl; early = λ i h. refl; late = λ i h k. nothing i h k; rest = λ i h. refl }
-  where
-    nothing : (i : ℕ) → 2 * count ≤ i → i < 2 * count → value_at old i ≡ half old i
-    nothing i h k = let z : ⊥ = omega arith in absurd z
-
-pub passed-all : (count : ℕ) (old now : List Float) (j : ℕ) → j ≤ 0 → Passed count old now j → Split count old now
-passed-all count old now j h p = record { sized = p.sized; made = λ i k. p.late i (omega arith) k; rest = p.rest }
-
-module _ (count : ℕ) (old now : List Float) (j : ℕ) (p : Passed count old now (suc j)) (few : suc j ≤ count) (h : 2 * suc j ≤ length old) where
-  abbrev zero' : Float
-  zero' = fin false 0 (pos 0)
-
-  module _ (w s : Float) (W : w ≡ worse (value_at now j)) (S : s ≡ square (value_at now j)) where
-    abbrev after : List Float
-    after = set (set now (2 * j) w) (2 * j + 1) s
-
-    other : (i : ℕ) → (i ≡ 2 * j → ⊥) → (i ≡ 2 * j + 1 → ⊥) → value_at after i ≡ value_at now i
-    other i a b = get_or-set_other (set now (2 * j) w) (2 * j + 1) i s zero' b ∙ get_or-set_other now (2 * j) i w zero' a
-
-    own : value_at now j ≡ value_at old j
-    own = p.early j (omega arith)
-
-    at-even : value_at after (2 * j) ≡ half old (2 * j)
-    at-even =
-        get_or-set_other (set now (2 * j) w) (2 * j + 1) (2 * j) s zero' (λ (e : 2 * j ≡ 2 * j + 1). omega arith) ∙ get_or-set_same now (2 * j) w zero' (omega (arith, p.sized)) ∙ W ∙ ap worse own
-        ∙ sym (rw (even j, halved j) refl)
-      where
-        even : (j : ℕ) → 2 * j % 2 ≡ 0
-        even j = omega arith
-
-        halved : (j : ℕ) → 2 * j / 2 ≡ j
-        halved j = omega arith
-
-    at-odd : value_at after (2 * j + 1) ≡ half old (2 * j + 1)
-    at-odd =
-        get_or-set_same (set now (2 * j) w) (2 * j + 1) s zero' (omega (arith, length-set now (2 * j) w, p.sized)) ∙ S ∙ ap square own
-        ∙ sym (rw (odd j, halved j) refl)
-      where
-        odd : (j : ℕ) → (2 * j + 1) % 2 ≡ 1
-        odd j = omega arith
-
-        halved : (j : ℕ) → (2 * j + 1) / 2 ≡ j
-        halved j = omega arith
-
-    pub passed-more : Passed count old after j
-    passed-more = record {
-      sized = length-set (set now (2 * j) w) (2 * j + 1) s ∙ length-set now (2 * j) w ∙ p.sized;
-      early = λ i k. other i (λ (e : i ≡ 2 * j). omega arith) (λ (e : i ≡ 2 * j + 1). omega arith) ∙ p.early i (omega arith);
-      late = λ i k l. which i k l (dec_lt i (2 * j + 2)) (dec_lt i (2 * j + 1));
-      rest = λ i k. other i (λ (e : i ≡ 2 * j). omega arith) (λ (e : i ≡ 2 * j + 1). omega arith) ∙ p.rest i k;
-    }
-      where
-        which : (i : ℕ) → 2 * j ≤ i → i < 2 * count → Dec (i < 2 * j + 2) → Dec (i < 2 * j + 1) → value_at after i ≡ half old i
-        which i k l (yes a) (yes b) = subst (λ (n : ℕ). value_at after n ≡ half old n) (same k b) at-even
-          where
-            same : 2 * j ≤ i → i < 2 * j + 1 → 2 * j ≡ i
-            same k b = omega arith
-        which i k l (yes a) (no b) = subst (λ (n : ℕ). value_at after n ≡ half old n) (same a b) at-odd
-          where
-            same : i < 2 * j + 2 → (i < 2 * j + 1 → ⊥) → 2 * j + 1 ≡ i
-            same a b = omega arith
-        which i k l (no a) b = other i (λ (e : i ≡ 2 * j). omega arith) (λ (e : i ≡ 2 * j + 1). omega arith) ∙ p.late i (omega arith) l

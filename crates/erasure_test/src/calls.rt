@@ -3,8 +3,8 @@ ghost use Rattle.std.specs.Prelude.{◌≤◌};
 
 use crate::rates::float;
 use std::io;
-use test_tools::buffers::{Bytes, lent_bytes, same_bytes};
-use test_tools::numbers::{both, least, minus, one_if};
+use test_tools::buffers::{Bytes, filled, lent_bytes, same_bytes};
+use test_tools::numbers::{least, number_of, one_if};
 use test_tools::report::{end_line, print_values};
 use test_tools::tally::{Count, sum};
 use test_tools::texts::{field, number, part, value_at};
@@ -24,28 +24,17 @@ fn right(
 ) -> io::Result<bool> {
     let mut left = [FILLER; 4112];
     let answer = erasure::mask_by_erasure(n, k, float(bits as u64), lent_bytes(&mut left, room));
-    let same = both(answer == number, same_bytes(left, mask));
+    let given = number_of(&answer);
+    let same = given == number && same_bytes(left, mask);
     if !same {
         print_values(
             rt,
             b"mismatch: N |, K |, rate of bits |, buffer of | bytes: number |, expected ",
-            [n, k, bits, room, answer as usize, number as usize, 0, 0],
+            [n, k, bits, room, given as usize, number as usize, 0, 0],
         )?;
         end_line(rt)?;
     }
     Ok(same)
-}
-
-// The first n positions unfrozen, and fillers behind them.
-fn all_unfrozen(n: usize) -> Bytes {
-    let end = least(n, 4112);
-    let mut mask = [FILLER; 4112];
-    let mut i = 0;
-    while i < end {
-        mask[i] = 0;
-        i += 1;
-    }
-    mask
 }
 
 // Calls with a buffer of N bytes and with one of up to eight more, whose tail stays.
@@ -66,16 +55,15 @@ pub fn run_order(rt: &impl Print, line: &[u8]) -> io::Result<Count> {
     let n = least(value_at(line, 1), 1024);
     let bits = value_at(line, 2);
     let positions = field(line, 3);
-    let mut mask = all_unfrozen(n);
+    // All positions unfrozen.
+    let mut mask = filled(n, 0, FILLER);
     let mut count = run_mask(rt, n, n, bits, mask)?;
-    let mut frozen = 0;
-    while frozen < n {
-        let p = number(part(positions, 3 * frozen, 3 * frozen + 3)) as usize;
+    for rank in 0..n {
+        let p = number(part(positions, 3 * rank, 3 * rank + 3)) as usize;
         if p < 4112 {
             mask[p] = 1;
         }
-        frozen += 1;
-        count = sum(count, run_mask(rt, n, minus(n, frozen), bits, mask)?);
+        count = sum(count, run_mask(rt, n, n - rank - 1, bits, mask)?);
     }
     Ok(count)
 }

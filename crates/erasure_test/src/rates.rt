@@ -1,28 +1,17 @@
 // The rates of 1024 positions beside the exact ones.
 use std::io;
-use test_tools::numbers::{both, one_if};
+use test_tools::numbers::one_if;
 use test_tools::report::{end_line, print_values};
 use test_tools::tally::Count;
 use test_tools::texts::{field, part, value, value_at};
 
-// The float of a bit pattern whose exponent field is all ones: an infinity or a NaN.
-fn not_finite(bits: u64) -> f64 {
-    let infinity = 1.0f64 / 0.0;
-    if bits % 4503599627370496 != 0 {
-        infinity - infinity
-    } else if bits < 9223372036854775808 {
-        infinity
-    } else {
-        -infinity
-    }
-}
-
-// The float of a bit pattern.
+// The float of a bit pattern. Above the pattern of infinity, but for the sign, all are NaN's. samples_test has the same for `f32`, whose
+// `from_bits` is another function: one for both would take that and the two sizes.
 pub fn float(bits: u64) -> f64 {
-    if bits % 9223372036854775808 / 4503599627370496 == 2047 {
-        not_finite(bits)
-    } else {
+    if bits % 0x8000_0000_0000_0000 <= 0x7ff0_0000_0000_0000 {
         f64::from_bits(bits)
+    } else {
+        f64::NAN
     }
 }
 
@@ -31,7 +20,7 @@ const LIMIT: f64 = 9.0e-13;
 
 fn near(rate: f64, expected: f64, limit: f64) -> bool {
     let apart = rate - expected;
-    both(apart <= limit, -limit <= apart)
+    apart <= limit && -limit <= apart
 }
 
 // Whether a position's rate is within the limit of the expected one, which is given by its bits. Prints the position if not.
@@ -60,11 +49,9 @@ fn run_within(rt: &impl Print, line: &[u8], limit: f64) -> io::Result<Count> {
     erasure::rates(float(value_at(line, 1) as u64), 10, &mut values);
     let expected = field(line, 2);
     let mut right = 0;
-    let mut i = 0;
-    while i < 1024 {
+    for (i, rate) in values.iter().enumerate() {
         let bits = value(part(expected, 16 * i, 16 * i + 16));
-        right += one_if(right_rate(rt, i, values[i], bits, limit)?);
-        i += 1;
+        right += one_if(right_rate(rt, i, *rate, bits, limit)?);
     }
     Ok(Count {
         cases: 1024,

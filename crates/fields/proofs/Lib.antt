@@ -1,4 +1,3 @@
-pub mod Bytes
-pub mod Signs
+pub mod Numbers
 pub mod Split
 pub mod Stores

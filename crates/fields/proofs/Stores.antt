@@ -1,5 +1,5 @@
 -- What a loop leaves that stores one value behind another: the front of a buffer is overwritten. For the crates above. Assumes nothing.
-use mathlib.Core.Path.{◌≡◌, refl, ap, ◌∙◌}
+use mathlib.Core.Path.{◌≡◌, ap, ◌∙◌}
 use mathlib.Core.List.{List, ◌++◌}
 use Prim.Native.Nat.{ℕ, ◌+◌, ◌≤◌, ◌<◌}
 use native.Mathlib.Numerals.{add-one}
@@ -19,9 +19,6 @@ pub record Storing {A : Type 0} (v l₀ l : List A) (i : ℕ) : Type 0 where
   pub within : i ≤ length v
   pub kept : length l ≡ length l₀
   pub same : sets l i (drop i v) ≡ sets l₀ 0 v
-
-pub storing_start : {A : Type 0} (v l : List A) → Storing v l l 0
-storing_start v l = record { within = omega arith; kept = refl; same = refl }
 
 module _ {A : Type 0} {v l₀ l : List A} {i : ℕ} (p : Storing v l₀ l i) where
   pub storing_on : (d z : A) → i < length v → z ≡ get_or v i d → Storing v l₀ (set l i z) (i + 1)

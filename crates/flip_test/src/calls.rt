@@ -1,5 +1,6 @@
 // A call of flip attempts on the first elements of buffers, and what it answered and left.
-use scan_flip::FlipDecoded;
+use attempts::Attempted;
+use inputs::Refusal;
 use test_tools::buffers::{Bytes, bytes, draw_words, lent_bytes, lent_words, shorts, words_stay};
 use test_tools::numbers::least;
 
@@ -48,17 +49,20 @@ pub struct Got {
 }
 
 // The library's answer as one of these.
-fn answer_of(decoded: FlipDecoded) -> Answer {
+fn answer_of(decoded: Result<Attempted, Refusal>) -> Answer {
     match decoded {
-        FlipDecoded::Matched(t) => Answer {
+        Ok(Attempted::Matched(t)) => Answer {
             kind: b'm',
             number: t,
         },
-        FlipDecoded::Unmatched(made) => Answer {
+        Ok(Attempted::Unmatched(made)) => Answer {
             kind: b'u',
             number: made,
         },
-        FlipDecoded::Refused(number) => Answer { kind: b'r', number },
+        Err(refusal) => Answer {
+            kind: b'r',
+            number: refusal.number(),
+        },
     }
 }
 

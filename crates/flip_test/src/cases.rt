@@ -4,21 +4,18 @@ ghost use Rattle.std.specs.Prelude.{◌≤◌, IfOk};
 use crate::calls::{Answer, FILLER, Inputs, Lent, called};
 use std::io;
 use test_tools::buffers::{Bytes, byte_at, same_bytes};
-use test_tools::numbers::{both, case_seed, choose, least, one_if, signed};
+use test_tools::numbers::{case_seed, choose, least, one_if, signed};
 use test_tools::report::{end_line, print_values};
 use test_tools::tally::Count;
-use test_tools::texts::{digits_of, field, number, part, value_at};
+use test_tools::texts::{digits_of, field, number, value_at};
 
 // ---- a line of the file
 
 // The LLRs, four digits each, and zeros behind them.
 fn llrs_of(digits: &[u8]) -> [i16; 1056] {
-    let end = least(digits.len() / 4, 1056);
     let mut llrs = [0i16; 1056];
-    let mut i = 0;
-    while i < end {
-        llrs[i] = signed(number(part(digits, 4 * i, 4 * i + 4)) as usize);
-        i += 1;
+    for (llr, four) in llrs.iter_mut().zip(digits.chunks_exact(4)) {
+        *llr = signed(number(four) as usize);
     }
     llrs
 }
@@ -77,7 +74,7 @@ fn print_mismatch(
 
 // Whether both have the same kind and number.
 fn same_answer(a: Answer, b: Answer) -> bool {
-    both(a.kind == b.kind, a.number == b.number)
+    a.kind == b.kind && a.number == b.number
 }
 
 // Whether a call answers and leaves what the line has. Prints the case if not.
@@ -85,11 +82,8 @@ fn right(rt: &impl Print, case: usize, line: &[u8], lent: Lent) -> io::Result<bo
     let got = called(inputs_of(line), lent);
     let answer = got.answer;
     let payload = got.payload;
-    let left = both(
-        got.work,
-        same_bytes(payload, digits_of(field(line, 8), FILLER)),
-    );
-    if both(same_answer(answer, answer_in(line)), left) {
+    let left = got.work && same_bytes(payload, digits_of(field(line, 8), FILLER));
+    if same_answer(answer, answer_in(line)) && left {
         return Ok(true);
     }
     print_mismatch(rt, case, lent, answer, got.work, line)?;

@@ -8,40 +8,17 @@ mod cases;
 
 use cases::run_case;
 use std::io;
-use test_tools::buffers::{byte_at, bytes};
+use test_tools::buffers::bytes;
 use test_tools::input::read_full;
-use test_tools::tally::{Tally, end_group, next_number, no_cases, report_count, with_count};
-use test_tools::texts::{find, part};
-
-// A case's counts added to the tally.
-fn with_case(rt: &impl Print, t: Tally, line: &[u8]) -> io::Result<Tally> {
-    Ok(with_count(t, run_case(rt, next_number(t), line)?))
-}
-
-// A line of the file: a comment, the end of a group, or a case.
-fn run_line(rt: &impl Print, t: Tally, line: &[u8]) -> io::Result<Tally> {
-    match byte_at(line, 0) {
-        b'#' => Ok(t),
-        b'=' => end_group(rt, t, part(line, 2, line.len())),
-        _ => with_case(rt, t, line),
-    }
-}
-
-// All lines of the file.
-fn run_file(rt: &impl Print, file: &[u8]) -> io::Result<Tally> {
-    let mut t = no_cases();
-    let mut at = 0;
-    while at < file.len() {
-        let e = find(file, at, b'\n');
-        t = run_line(rt, t, part(file, at, e))?;
-        at = e + 1;
-    }
-    Ok(t)
-}
+use test_tools::tally::{report_count, run_cases};
 
 fn main(rt: HostRuntime) -> io::Result<()> {
     let mut file = [0u8; 131072];
     let n = read_full(&mut rt.stdin(), &mut file)?;
-    let t = run_file(&rt, bytes(&file, n))?;
+    let t = run_cases(
+        &rt,
+        bytes(&file, n),
+        |number, line| run_case(&rt, number, line),
+    )?;
     report_count(&rt, b"all", t.total)
 }

@@ -1,7 +1,7 @@
 -- Lists that are made place by place, or eight places at a time. Assumes nothing.
 use mathlib.Core.Path.{◌≡◌, refl, sym, ap, ◌∙◌}
 use mathlib.Core.List.{List, [], ◌∷◌}
-use Prim.Native.Nat.{ℕ, zero, suc, ◌+◌, ◌*◌, ◌-◌, ◌/◌, ◌^◌, ◌<◌, ◌≤◌}
+use Prim.Native.Nat.{ℕ, zero, suc, ◌+◌, ◌*◌, ◌-◌, ◌%◌, ◌^◌, ◌<◌, ◌≤◌}
 use native.Mathlib.Nat.{zero-add, le_antisymm}
 use native.Mathlib.Omega.{arith}
 use lib.IntN.{ℤ, pos}
@@ -57,10 +57,10 @@ module _ {A : Type 0} (z : A) where
       ap (λ (i : ℕ). get_or (write w₀ 0 n f) i z) (sym (zero-add j)) ∙ write_in z w₀ 0 n f j lt (omega arith) ∙ e j lt)
 
 -- eight positions or more are a number of eights
-pub eighths : (n size : ℕ) → 3 ≤ n → size ≡ 2 ^ n → size ≡ size / 8 * 8
+pub eighths : (n size : ℕ) → 3 ≤ n → size ≡ 2 ^ n → size % 8 ≡ 0
 eighths n size l e = go (2 ^ (n - 3)) (in_blocks 3 n size l e)
   where
-    go : (q : ℕ) → size ≡ q * 8 → size ≡ size / 8 * 8
+    go : (q : ℕ) → size ≡ q * 8 → size % 8 ≡ 0
     go q h = omega arith
 
 -- eight places stored side by side

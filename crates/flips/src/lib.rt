@@ -1,7 +1,7 @@
 // Positions that are frozen to 1: the word of the frozen values, and the numbers that are negated where that word has a 1.
 #![tactic(auto)]
 
-ghost use Rattle.std.specs.Prelude.{◌≡◌, ◌+◌, ◌*◌, ◌^◌, ◌≤◌, neg_ℤ, length, get_or};
+ghost use Rattle.std.specs.Prelude.{◌≡◌, ◌+◌, ◌%◌, ◌^◌, ◌≤◌, neg_ℤ, length, get_or};
 ghost use Rattle.model.specs.Lists.{bit, on_ones, part};
 ghost use Rattle.model.specs.Encoding.{is_known_one, known_bits, known_word};
 ghost use Rattle.words.specs.Words.{Words, word, write};
@@ -15,10 +15,8 @@ fn known_bits(mask: &[u8], bits: &mut [u8])
     requires { length bits.old ≡ length mask.now }
     ensures { bits.new ≡ known_bits mask.now }
 {
-    let mut i = 0;
-    while i < mask.len() {
-        bits[i] = known_bit(mask[i]);
-        i += 1;
+    for (i, &byte) in mask.iter().enumerate() {
+        bits[i] = known_bit(byte);
     }
 }
 
@@ -45,18 +43,14 @@ fn known_eight(mask: &[u8], bits: &mut [u8], k: usize)
     bits[k + 7] = h;
 }
 
-// The frozen values of `count` times eight positions. The transform reads words of eight bytes, and a word that was stored as
+// The same for a multiple of eight positions. The transform reads words of eight bytes, and a word that was stored as
 // one can be read right after; bytes that were stored one by one could not.
-fn known_eights(mask: &[u8], bits: &mut [u8], count: usize)
-    requires { (length mask.now ≡ count * 8) × (length bits.old ≡ length mask.now) }
+fn known_eights(mask: &[u8], bits: &mut [u8])
+    requires { (length mask.now % 8 ≡ 0) × (length bits.old ≡ length mask.now) }
     ensures { bits.new ≡ known_bits mask.now }
 {
-    let mut left = count;
-    let mut k = 0;
-    while 0 < left {
-        known_eight(mask, bits, k);
-        k += 8;
-        left -= 1;
+    for q in 0..mask.len() / 8 {
+        known_eight(mask, bits, 8 * q);
     }
 }
 
@@ -68,7 +62,7 @@ fn frozen_values(mask: &[u8], bits: &mut [u8], n: usize)
     if n < 3 {
         known_bits(mask, bits);
     } else {
-        known_eights(mask, bits, mask.len() / 8);
+        known_eights(mask, bits);
     }
 }
 
@@ -86,11 +80,8 @@ pub fn load_flipped(w: &mut [i32], m: usize, llrs: &[i16], known: &[u8])
     requires { (m + length llrs.now ≤ length w.old) × (length known.now ≡ length llrs.now) }
     ensures { w.new ≡ write w.old m (length llrs.now) (word (on_ones neg_ℤ known.now llrs.now)) }
 {
-    let mut k = 0;
-    while k < llrs.len() {
-        let v = widened(llrs[k]);
-        w[m + k] = with_sign(known[k] == 1, v);
-        k += 1;
+    for (k, &llr) in llrs.iter().enumerate() {
+        w[m + k] = with_sign(known[k] == 1, widened(llr));
     }
 }
 
@@ -100,10 +91,7 @@ pub fn copy_flipped(w: &[i32], x: usize, out: &mut [i32], known: &[u8])
     requires words { Words w.now x (length known.now) }
     ensures { out.new ≡ write out.old 0 (length known.now) (word (on_ones neg_ℤ known.now (part w.now x (length known.now)))) }
 {
-    let mut k = 0;
-    while k < known.len() {
-        let value = w[x + k];
-        out[k] = with_sign(known[k] == 1, value);
-        k += 1;
+    for (k, &bit) in known.iter().enumerate() {
+        out[k] = with_sign(bit == 1, w[x + k]);
     }
 }

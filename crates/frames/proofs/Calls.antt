@@ -1,13 +1,13 @@
 -- A frame's number and answers, from the decode that was made of it. Assumes nothing.
 use mathlib.Core.Path.{◌≡◌, refl, sym, ap, ◌∙◌, subst}
-use mathlib.Core.List.{List, [], ◌∷◌, ◌++◌}
+use mathlib.Core.List.{List, [], ◌∷◌, ◌++◌, append-nil}
 use Prim.Native.Nat.{ℕ, ◌+◌, ◌*◌, ◌^◌, ◌≤◌, ◌<◌}
 use native.Mathlib.Omega.{arith}
 use native.Mathlib.Nat.{mul-le-mul}
 use borrow.Author.Tests.{le-leb}
 use lib.IntN.{ℤ}
-use lib.ListN.{length, take, drop}
-use lib.Seq.{take_at}
+use lib.ListN.{length, take, drop, drop_of_length-le}
+use lib.Seq.{take_at, length-take-le}
 use Rattle.model.specs.Lists.{tabulate, over}
 use Rattle.model.specs.Scan.{hard_word, decided, decode_scan}
 use Rattle.model.specs.Plans.{Allowed}
@@ -27,15 +27,19 @@ unfolding frame_number refusal
 drain-fits f le = rw (le-leb f.drain max_drain le)
 
 -- a frame that is refused has no other result
-no_answer : {mask : List ℕ} {f : CaptureFrame} {r d c e y : ℕ} → (r ≡ 0 → ⊥) → r ≡ frame_number f → (d ≡ 0) × (c ≡ 0) × (e ≡ 0) × (y ≡ 0) → FrameReplayed mask f r d c e y
-no_answer n is zeros = record {
+no_answer : {mask : List ℕ} {f : CaptureFrame} {r : ℕ} → (r ≡ 0 → ⊥) → r ≡ frame_number f → FrameReplayed mask f r 0 0 0 0
+no_answer n is = record {
   number_is = is;
   drain-is = λ z. absurd (n z);
   check-is = λ z. absurd (n z);
   differ-is = λ z. absurd (n z);
   cycles-is = λ z. absurd (n z);
-  nothing = λ n. zeros;
+  nothing = λ n. (refl, refl, refl, refl);
 }
+
+-- a good mask has at most 1024 positions
+pub planned-small : {mask plan : List ℕ} → Planned mask plan → length mask ≤ 1024
+planned-small {mask} P = length-small (length mask) P.sized
 
 -- ---- a decode of a frame
 module _ {mask plan : List ℕ} (P : Planned mask plan) (drain sweeps : ℕ) (llrs : List ℤ) (values : length llrs ≡ length mask) (below : drain ≤ max_drain) where
@@ -71,8 +75,8 @@ module _ {mask plan : List ℕ} (P : Planned mask plan) (drain sweeps : ℕ) (ll
       own : number ≡ frame_number f
       own = o.number_is ∙ left ∙ drain-fits f below
 
-      pub frame_refused : {r d c e y : ℕ} → (number ≡ 0 → ⊥) → (r ≡ number) × (d ≡ 0) × (c ≡ 0) × (e ≡ 0) × (y ≡ 0) → FrameReplayed mask f r d c e y
-      frame_refused not-zero is = no_answer (λ z. not-zero (sym is.0 ∙ z)) (is.0 ∙ own) (is.1, is.2, is.3, is.4)
+      pub frame_refused : (number ≡ 0 → ⊥) → FrameReplayed mask f number 0 0 0 0
+      frame_refused not-zero = no_answer not-zero own
 
       module _ (zero_is : number ≡ 0) where
         call-zero : decode_number (call_of g) ≡ 0
@@ -104,17 +108,18 @@ module _ (mask bytes : List ℕ) (at : ℕ) where
   abbrev read : CaptureFrame
   read = frame_at bytes (length mask) at
 
-  pub over-drain : {number drain a b c d : ℕ} → drain ≡ number16_at bytes at → max_drain < drain → (number ≡ 15) × (a ≡ 0) × (b ≡ 0) × (c ≡ 0) × (d ≡ 0) → FrameReplayed mask read number a b c d
+  pub over-drain : {drain : ℕ} → drain ≡ number16_at bytes at → max_drain < drain → FrameReplayed mask read 15 0 0 0 0
   unfolding frame_at
-  over-drain e lt is = no_answer (λ z. omega (arith, is.0)) (is.0 ∙ sym (drain-over read (omega (arith, e)))) (is.1, is.2, is.3, is.4)
+  over-drain e lt = no_answer (λ z. omega (arith, z)) (sym (drain-over read (omega (arith, e))))
 
-  -- the front of the buffer that the LLRs were read into
-  pub read-front : (old new : List ℤ) → new ≡ over (tabulate (length mask) (λ k. signed16 (number16_at bytes (at + 4 + 2 * k)))) old
-      → take (length mask) new ≡ tabulate (length mask) (λ k. signed16 (number16_at bytes (at + 4 + 2 * k)))
+  -- the LLRs as they are read, over the front of a longer buffer
+  pub read-front : (old new : List ℤ) → length mask ≤ length old → new ≡ over (tabulate (length mask) (λ k. signed16 (number16_at bytes (at + 4 + 2 * k)))) (take (length mask) old)
+      → new ≡ tabulate (length mask) (λ k. signed16 (number16_at bytes (at + 4 + 2 * k)))
   unfolding over
-  read-front old new e =
+  read-front old new room e =
       let llrs : List ℤ = tabulate (length mask) (λ k. signed16 (number16_at bytes (at + 4 + 2 * k))) in
-      ap (take (length mask)) e ∙ take_at llrs (drop (length llrs) old) (length mask) (length_tabulate (length mask) _)
+      let past : length (take (length mask) old) ≤ length llrs = omega (arith, length_tabulate (length mask) (λ k. signed16 (number16_at bytes (at + 4 + 2 * k))), length-take-le (length mask) old room) in
+      e ∙ ap (λ (l : List ℤ). llrs ++ l) (drop_of_length-le (take (length mask) old) past) ∙ append-nil llrs
 
   pub frame-read : {drain sweeps : ℕ} (llrs : List ℤ) → drain ≡ number16_at bytes at → sweeps ≡ number16_at bytes (at + 2)
       → llrs ≡ tabulate (length mask) (λ k. signed16 (number16_at bytes (at + 4 + 2 * k))) → frame_of drain sweeps llrs ≡ read

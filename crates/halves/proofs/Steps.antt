@@ -1,5 +1,5 @@
 -- What the loops read, and the right child's incoming list: boxes first, and then the part that starts at c is added to them. Assumes nothing.
-use mathlib.Core.Path.{◌≡◌, refl, sym, ap, ap₂, ◌∙◌, subst, subst₂}
+use mathlib.Core.Path.{◌≡◌, sym, ap, ap₂, ◌∙◌, subst, subst₂}
 use mathlib.Core.Logic.{⊎_elim}
 use lib.IntN.{ℤ, pos}
 use mathlib.Core.List.{List}
@@ -12,10 +12,10 @@ use lib.Signed.{mag}
 use mir.Val.{to_z, of_z}
 use mir.Syntax.{w32}
 use Rattle.words.specs.Words.{Word, word, write, box_word, add_word, Added, Finite}
-use Rattle.halves.specs.Halves.{Apart, Inside, Sources, box_at, box_plus, plus_box, plus_front, left_at, right_at, LeftPlace, RightPlace, LeftAt, RightAt}
+use Rattle.halves.specs.Halves.{Apart, Inside, Sources, box_at, box_plus, plus_box, plus_front, left_at, right_at, LeftPlace, RightPlace, RightAt}
 use Rattle.words.proofs.Signed.{back}
 use Rattle.words.proofs.Loops.{Stored}
-use Rattle.words.proofs.Store.{store-none, store-next, length-write, write_in, write-below, write_ext, write-over, write_mid, get_or_mid, source-above, source-below}
+use Rattle.words.proofs.Store.{length-write, write_in, write-below, write_ext, write-over, write_mid, get_or_mid, source-above, source-below}
 
 -- word i of a source that shares no word with what a loop stores
 module _ {w₀ w : List ℤ} {d h k : ℕ} {f : ℕ → ℤ} (s : Stored w₀ d h f k w) where
@@ -40,13 +40,6 @@ part-long w e i lt = omega (arith, length-take-le (length w - e) (drop e w) (ome
 
 -- place i of three sources, one of them a part of its own: what is asked there, and what is found
 module _ {w : List ℤ} {d a b c h : ℕ} (src : Inside w d a b c h) (i : ℕ) (lt : i < h) where
-  pub left-asked : LeftPlace w a b c i → LeftAt w (from b w) a c i
-  left-asked place = record {
-    there = (omega (arith, src.fit), omega (arith, src.fit), part-long w b i (omega (arith, src.fit)));
-    first = place.0;
-    sum = subst (λ (z : ℤ). Added z (word w (c + i))) (sym (in_part w b i (omega (arith, src.fit)))) place.1;
-  }
-
   pub left-found : left_at w (from b w) a c i ≡ box_plus w a b c i
   left-found = ap (λ (z : ℤ). box_word (word w (a + i)) (add_word z (word w (c + i)))) (in_part w b i (omega (arith, src.fit)))
 
@@ -87,10 +80,6 @@ module _ {w₀ w : List ℤ} {d a b c h k : ℕ} {f : ℕ → ℤ} (src : Source
 
     pub right-same : plus_box w a b c i ≡ plus_box w₀ a b c i
     right-same = ap₂ add_word (ap₂ box_word at_a at_b) at_c
-
--- four places from the first on are all of four
-pub all-four : (w : List ℤ) (d h : ℕ) (f : ℕ → ℤ) → h ≡ 4 → write w (d + 0) 4 (λ j. f (0 + j)) ≡ write w d h f
-all-four w d h f e = store-next (pos 0) w w d 0 4 f (λ j. f (0 + j)) (store-none (pos 0) w d f) (λ j lt. refl) ∙ ap (λ (n : ℕ). write w d n f) (sym e)
 
 -- the words that the part that starts at c has to add
 module _ (w v : List ℤ) (d a b c h : ℕ) (fit : d + h ≤ length w) (le : c + h ≤ d) (ev : v ≡ write w d h (box_at w a b)) (k : ℕ) (lt : k < h) where

@@ -14,10 +14,8 @@ fn box_plus(w: &mut [i32], d: usize, a: usize, b: usize, c: usize, h: usize)
     requires words { Words w.old a h × Sums w.old b c h }
     ensures { w.new ≡ write w.old d h (box_plus w.old a b c) }
 {
-    let mut k = 0;
-    while k < h {
+    for k in 0..h {
         w[d + k] = box_words(w[a + k], add_words(w[b + k], w[c + k]));
-        k += 1;
     }
 }
 
@@ -28,10 +26,8 @@ fn box_at(w: &mut [i32], d: usize, a: usize, b: usize, h: usize)
     requires words { Words w.old a h × Words w.old b h }
     ensures { w.new ≡ write w.old d h (box_at w.old a b) }
 {
-    let mut k = 0;
-    while k < h {
+    for k in 0..h {
         w[d + k] = box_words(w[a + k], w[b + k]);
-        k += 1;
     }
 }
 
@@ -42,10 +38,8 @@ fn plus_at(w: &mut [i32], d: usize, a: usize, b: usize, h: usize)
     requires finite_sums { FiniteSums w.old a b h }
     ensures { w.new ≡ write w.old d h (plus_at w.old a b) }
 {
-    let mut k = 0;
-    while k < h {
+    for k in 0..h {
         w[d + k] = add_finite(w[a + k], w[b + k]);
-        k += 1;
     }
 }
 
@@ -55,10 +49,8 @@ fn add_front(part: &mut [i32], d: usize, h: usize)
     requires by_index { (k : ℕ) → k < h → Finite (word part.old (d + k)) (word part.old k) }
     ensures { part.new ≡ write part.old d h (plus_front part.old d) }
 {
-    let mut k = 0;
-    while k < h {
+    for k in 0..h {
         part[d + k] = add_finite(part[d + k], part[k]);
-        k += 1;
     }
 }
 
@@ -132,11 +124,10 @@ fn left_eights(w: &mut [i32], d: usize, a: usize, b: usize, c: usize, h: usize)
     requires words { Words w.old a h × Sums w.old b c h }
     ensures { w.new ≡ write w.old d h (box_plus w.old a b c) }
 {
-    let mut k = 0;
-    while k < h {
+    for q in 0..h / 8 {
+        let k = 8 * q;
         left_four(w, d, a, b, c, k);
         left_four(w, d, a, b, c, k + 4);
-        k += 8;
     }
 }
 
@@ -146,11 +137,10 @@ fn right_eights(w: &mut [i32], d: usize, a: usize, b: usize, c: usize, h: usize)
     requires words { Words w.old a h × Words w.old b h × FiniteBoxSums w.old a b c h }
     ensures { w.new ≡ write w.old d h (plus_box w.old a b c) }
 {
-    let mut k = 0;
-    while k < h {
+    for q in 0..h / 8 {
+        let k = 8 * q;
         right_four(w, d, a, b, c, k);
         right_four(w, d, a, b, c, k + 4);
-        k += 8;
     }
 }
 

@@ -1,10 +1,11 @@
-// Tests of inputs that several calls share.
+// What calls are refused for, and tests of inputs that several calls share.
 #![tactic(auto)]
 
-ghost use Rattle.std.specs.Prelude.{◌≡◌, cond, ◌&&◌, ℕ, ◌≤◌, max, leb, length};
+ghost use Rattle.std.specs.Prelude.{◌≡◌, ℕ, ◌&&◌, ◌≤◌, max, leb, length};
 ghost use Rattle.model.specs.Lists.{at_most, bit};
 ghost use Rattle.model.specs.Encoding.{unfrozen, is_unfrozen, is_known_one};
 ghost use Rattle.model.specs.Refusals.{exponent, max_sweeps, is_llr};
+ghost use Rattle.inputs.specs.Numbers.{refusal_number};
 ghost use Rattle.inputs.specs.Tests.{MaskTests};
 
 // The mask byte of an unfrozen position; every other byte is a frozen one's.
@@ -22,18 +23,99 @@ const MAX_SWEEPS: usize = 8;
 // An LLR is within ± this.
 const MAX_LLR: i32 = 32767;
 
+// ---- refusals
+
+// What a call is refused for.
+#[derive(Clone, Copy, Debug, PartialEq, Eq)]
+pub enum Refusal {
+    // N is no power of two from 2 to 1024.
+    Length,
+    // A mask byte is above 2.
+    MaskByte,
+    // LLRs, marks or payload bits are not as many as the mask or the samples ask for.
+    Count,
+    // Sweeps are not 1 to 8.
+    Sweeps,
+    // The plan has another length than 2N, a byte above 1, or its byte 0 is 1.
+    PlanBytes,
+    // A path through the tree has no cut or two, or a cut node is of no kind.
+    PlanCuts,
+    // An LLR is -32768.
+    Llr,
+    // The noise variance is not finite or not above 0.
+    Variance,
+    // A mark is above 2, or a sent sample is not finite.
+    Sample,
+    // A payload byte is above 1.
+    PayloadByte,
+    // An output buffer is too short.
+    ShortOutput,
+    // The workspace is too short.
+    ShortWorkspace,
+    // A line of the line program does not keep to its format.
+    Line,
+    // A capture's trailer or length does not fit.
+    Capture,
+    // A frame's drain number is above 63.
+    Drain,
+    // K is above N.
+    UnfrozenCount,
+    // K or the wanted distance is 0.
+    NothingWanted,
+    // K is too small for a CRC.
+    ShortPayload,
+    // More than 31 attempts are asked for.
+    Attempts,
+    // An erasure rate is not between 0 and 1.
+    ErasureRate,
+    // The order of places is neither 1 nor 2.
+    Order,
+    // N of a square frame is above 32.
+    FrameSize,
+    // Half-iterations are not 1 to 16.
+    HalfIterations,
+}
+
+impl Refusal {
+    // The number by which a C host and the programs' lines know it.
+    pub fn number(self) -> u32
+        ensures { result ≡ refusal_number self }
+    {
+        match self {
+            Refusal::Length => 1,
+            Refusal::MaskByte => 2,
+            Refusal::Count => 3,
+            Refusal::Sweeps => 4,
+            Refusal::PlanBytes => 5,
+            Refusal::PlanCuts => 6,
+            Refusal::Llr => 7,
+            Refusal::Variance => 8,
+            Refusal::Sample => 9,
+            Refusal::PayloadByte => 10,
+            Refusal::ShortOutput => 11,
+            Refusal::ShortWorkspace => 12,
+            Refusal::Line => 13,
+            Refusal::Capture => 14,
+            Refusal::Drain => 15,
+            Refusal::UnfrozenCount => 16,
+            Refusal::NothingWanted => 17,
+            Refusal::ShortPayload => 18,
+            Refusal::Attempts => 19,
+            Refusal::ErasureRate => 20,
+            Refusal::Order => 21,
+            Refusal::FrameSize => 22,
+            Refusal::HalfIterations => 23,
+        }
+    }
+}
+
+// ---- masks
+
 // The value that a position is frozen to; 0 for an unfrozen one.
 pub fn known_bit(byte: u8) -> u8
     ensures { result ≡ bit (is_known_one byte) }
 {
     (byte == FROZEN_TO_ONE) as u8
-}
-
-// Whether both tests are passed.
-pub fn both(a: bool, b: bool) -> bool
-    ensures { result ≡ (a && b) }
-{
-    if a { b } else { false }
 }
 
 // The exponent of a power of two from 2 to 1024, and 0 for any other number.
@@ -59,7 +141,7 @@ pub fn exponent_of(size: usize) -> usize
 pub fn larger(a: u8, b: u8) -> u8
     ensures { result ≡ max a b }
 {
-    if a < b { b } else { a }
+    a.max(b)
 }
 
 // The largest byte: what no byte is above, it is not above either.
@@ -67,10 +149,8 @@ fn largest(bytes: &[u8]) -> u8
     ensures { (top : ℕ) → leb result top ≡ at_most top bytes.now }
 {
     let mut most: u8 = 0;
-    let mut i = 0;
-    while i < bytes.len() {
-        most = larger(most, bytes[i]);
-        i += 1;
+    for b in bytes {
+        most = larger(most, *b);
     }
     most
 }
@@ -95,55 +175,45 @@ pub fn unfrozen_of(mask: &[u8]) -> usize
     ensures { result ≡ unfrozen mask.now }
 {
     let mut k: u16 = 0;
-    let mut i = 0;
-    while i < mask.len() {
-        k += unfrozen_bit(mask[i]);
-        i += 1;
+    for byte in mask {
+        k += unfrozen_bit(*byte);
     }
     k as usize
 }
 
-// The number of a test that is not passed, and otherwise that of the tests after it.
-pub fn tested(passed: bool, after: u32, number: u32) -> u32
-    ensures { result ≡ cond passed after number }
-{
-    if passed { after } else { number }
-}
-
-// What tests 1 and 2 of a mask find: the number, and if it is 0 the exponent of N and whether a position is frozen to 1.
-#[derive(Drop)]
+// What tests 1 and 2 of a mask find: the exponent of N, and whether a position is frozen to 1.
+#[derive(Clone, Copy)]
 pub struct Masked {
-    pub number: u32,
     pub stage: usize,
     pub ones: bool,
 }
 
 // Tests 1 and 2, which all calls with a mask begin with.
-pub fn mask_tests(mask: &[u8]) -> Masked
-    ensures { MaskTests mask.now result.number result.stage result.ones }
+pub fn mask_tests(mask: &[u8]) -> Result<Masked, Refusal>
+    ensures { MaskTests mask.now result }
 {
     let stage = exponent_of(mask.len());
-    let most = largest(mask);
-    let second = tested(most <= MAX_MASK, 0, 2);
-    let number = tested(stage != 0, second, 1);
-    let ones = most == FROZEN_TO_ONE;
-    Masked {
-        number,
-        stage,
-        ones,
+    if stage == 0 {
+        return Err(Refusal::Length);
     }
+    let most = largest(mask);
+    if MAX_MASK < most {
+        return Err(Refusal::MaskByte);
+    }
+    let ones = most == FROZEN_TO_ONE;
+    Ok(Masked { stage, ones })
 }
 
 // Whether the number of sweeps is allowed.
 pub fn sweeps_fit(sweeps: usize) -> bool
     ensures { result ≡ (leb 1 sweeps && leb sweeps max_sweeps) }
 {
-    both(1 <= sweeps, sweeps <= MAX_SWEEPS)
+    1 <= sweeps && sweeps <= MAX_SWEEPS
 }
 
 // Whether a number is within an LLR's range.
 pub fn is_llr(z: i32) -> bool
     ensures { result ≡ is_llr z }
 {
-    both(-MAX_LLR <= z, z <= MAX_LLR)
+    -MAX_LLR <= z && z <= MAX_LLR
 }

@@ -104,13 +104,12 @@ fn gather_four(l: &[i32]) -> ByPlace
     let mut b = none;
     let mut c = none;
     let mut d = none;
-    let mut i = 0;
-    while i < l.len() {
+    for q in 0..l.len() / 4 {
+        let i = 4 * q;
         a = with_value(a, l[i]);
         b = with_value(b, l[i + 1]);
         c = with_value(c, l[i + 2]);
         d = with_value(d, l[i + 3]);
-        i += 4;
     }
     ByPlace {
         at0: a,

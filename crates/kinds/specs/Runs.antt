@@ -1,22 +1,28 @@
 -- How the code finds a kind: by the bytes at both ends of a mask and the length of its run of frozen positions. Assumes nothing.
+use Rattle.std.specs.Prelude as std
+use Rattle.std.specs.Prelude.{Some, None}
 use Rattle.std.specs.Prelude.{ℕ, ◌+◌, ◌-◌, ◌≤◌, ◌≡◌, Bool, true, cond, ◌&&◌, List, [], ◌∷◌, T, eqb, leb, length, take, drop}
 use Rattle.std.proofs.Math.Option.{Option, none, some}
 use Rattle.model.specs.Encoding.{frozen_to_zero}
 use Rattle.model.specs.Kinds.{Kind, rate_0, rate_1, REP, SPC, type_I, type_III, type_II, type_IV, order, least_size, kind_of, is_some, row}
 use Rattle.kinds.specs.declared.Kind as code
-use Rattle.kinds.specs.declared.Kind.TheVariants.{Rate0, Rate1, Rep, Spc, TypeI, TypeIII, TypeII, TypeIV, NoKind}
+use Rattle.kinds.specs.declared.Kind.TheVariants.{Rate0, Rate1, Rep, Spc, TypeI, TypeIII, TypeII, TypeIV}
 
--- the model's kind for each case of the code's answer
-abbrev pub kind_named : code.Kind → Option Kind
-kind_named Rate0 = some rate_0
-kind_named Rate1 = some rate_1
-kind_named Spc = some SPC
-kind_named Rep = some REP
-kind_named TypeIII = some type_III
-kind_named TypeI = some type_I
-kind_named TypeII = some type_II
-kind_named TypeIV = some type_IV
-kind_named NoKind = none
+-- the model's kind for each of the code's
+abbrev pub kind_named : code.Kind → Kind
+kind_named Rate0 = rate_0
+kind_named Rate1 = rate_1
+kind_named Spc = SPC
+kind_named Rep = REP
+kind_named TypeIII = type_III
+kind_named TypeI = type_I
+kind_named TypeII = type_II
+kind_named TypeIV = type_IV
+
+-- and where the code finds one or none
+abbrev pub kind_found : std.Option code.Kind → Option Kind
+kind_found (Some k) = some (kind_named k)
+kind_found None = none
 
 -- a kind's place in the table's order, and the number of kinds for none
 abbrev pub row_of : Option Kind → ℕ

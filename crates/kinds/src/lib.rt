@@ -1,18 +1,19 @@
 // The kind of a node, from its part of the mask. Each kind's pattern is a run of frozen positions with unfrozen ones after it.
 #![tactic(auto)]
 
-ghost use Rattle.std.specs.Prelude.{◌≡◌, true, cond, ◌||◌, ◌+◌, ◌<◌, ◌≤◌, T, length};
+ghost use Rattle.std.specs.Prelude.{◌≡◌, true, cond, ◌+◌, ◌<◌, ◌≤◌, T, length};
+ghost use Rattle.std.proofs.Math.Option.{some};
 ghost use Rattle.model.specs.Lists.{part};
 ghost use Rattle.model.specs.Encoding.{is_unfrozen, frozen_to_zero};
 ghost use Rattle.model.specs.Kinds.{rate_0, rate_1, kind_of, is_some, is_kind};
 ghost use Rattle.model.specs.Plans.{is_cut, is_rate01, cut_cycles};
-ghost use Rattle.kinds.specs.Runs.{kind_named, row_of, all_are, long_side, Ends};
-ghost use Rattle.kinds.specs.Known.{FixedAs};
+ghost use Rattle.kinds.specs.Runs.{kind_named, kind_found, row_of, all_are, long_side, Ends};
+ghost use Rattle.kinds.specs.Known.{FixedAs, is_certain, is_zero};
 
-use inputs::{UNFROZEN, both};
+use inputs::UNFROZEN;
 
-// A row of the table, or none.
-#[derive(Drop)]
+// A row of the table.
+#[derive(Clone, Copy, Debug, PartialEq, Eq)]
 pub enum Kind {
     Rate0,
     Rate1,
@@ -22,14 +23,13 @@ pub enum Kind {
     TypeI,
     TypeII,
     TypeIV,
-    NoKind,
 }
 
 // The number of kinds.
 pub const KINDS: usize = 8;
 
 // What the table says of a kind, or of none: its place in the order, its own cycles, and whether its message is fixed.
-#[derive(Drop)]
+#[derive(Clone, Copy)]
 pub struct Row {
     pub place: usize,
     pub cycles: u32,
@@ -38,7 +38,9 @@ pub struct Row {
 
 // A row by its columns.
 fn columns(place: usize, cycles: u32, fixed: bool) -> Row
-    ensures { (result.place ≡ place) × (result.cycles ≡ cycles) × (result.fixed ≡ fixed) }
+    ensures place { result.place ≡ place }
+    ensures cycles { result.cycles ≡ cycles }
+    ensures fixed { result.fixed ≡ fixed }
 {
     Row {
         place,
@@ -48,19 +50,21 @@ fn columns(place: usize, cycles: u32, fixed: bool) -> Row
 }
 
 // The table, a row a kind; the place of none is past the table.
-pub fn table_row(k: Kind) -> Row
-    ensures { (result.place ≡ row_of (kind_named k)) × (result.cycles ≡ cut_cycles (kind_named k)) × (result.fixed ≡ is_rate01 (kind_named k)) }
+pub fn table_row(kind: Option<Kind>) -> Row
+    ensures place { result.place ≡ row_of (kind_found kind) }
+    ensures cycles { result.cycles ≡ cut_cycles (kind_found kind) }
+    ensures fixed { result.fixed ≡ is_rate01 (kind_found kind) }
 {
-    match k {
-        Kind::Rate0 => columns(0, 0, true),
-        Kind::Rate1 => columns(1, 0, true),
-        Kind::Spc => columns(2, 2, false),
-        Kind::Rep => columns(3, 2, false),
-        Kind::TypeIII => columns(4, 2, false),
-        Kind::TypeI => columns(5, 2, false),
-        Kind::TypeII => columns(6, 4, false),
-        Kind::TypeIV => columns(7, 4, false),
-        Kind::NoKind => columns(KINDS, 0, false),
+    match kind {
+        Some(Kind::Rate0) => columns(0, 0, true),
+        Some(Kind::Rate1) => columns(1, 0, true),
+        Some(Kind::Spc) => columns(2, 2, false),
+        Some(Kind::Rep) => columns(3, 2, false),
+        Some(Kind::TypeIII) => columns(4, 2, false),
+        Some(Kind::TypeI) => columns(5, 2, false),
+        Some(Kind::TypeII) => columns(6, 4, false),
+        Some(Kind::TypeIV) => columns(7, 4, false),
+        None => columns(KINDS, 0, false),
     }
 }
 
@@ -76,10 +80,8 @@ fn all_are(part: &[u8], byte: u8) -> bool
     ensures { result ≡ all_are byte (frozen_to_zero part.now) }
 {
     let mut alike = true;
-    let mut i = 0;
-    while i < part.len() {
-        alike = both(alike, frozen_byte(part[i]) == byte);
-        i += 1;
+    for position in part {
+        alike &= frozen_byte(*position) == byte;
     }
     alike
 }
@@ -105,13 +107,13 @@ fn is_run(mask: &[u8], f: usize) -> bool
 }
 
 // The one kind that a node may be of, and the length of the run of frozen positions in that kind's pattern.
-#[derive(Drop)]
+#[derive(Clone, Copy)]
 struct Candidate(Kind, usize);
 
 // The candidate by the bytes at both ends of a node's part of the mask. Where two kinds' patterns are the same, the upper one is tested first.
 fn candidate_at_ends(mask: &[u8]) -> Candidate
     requires { 0 < length mask.now }
-    ensures { Ends mask.now (kind_named result.0) result.1 }
+    ensures { Ends mask.now (some (kind_named result.0)) result.1 }
 {
     let m = mask.len();
     if mask[m - 1] != UNFROZEN {
@@ -143,24 +145,20 @@ fn candidate_at_ends(mask: &[u8]) -> Candidate
 }
 
 // The kind of a node: the candidate's, if the positions between the ends keep to its pattern too.
-pub fn kind_of(mask: &[u8]) -> Kind
-    ensures { kind_named result ≡ kind_of (length mask.now) mask.now }
+pub fn kind_of(mask: &[u8]) -> Option<Kind>
+    ensures { kind_found result ≡ kind_of (length mask.now) mask.now }
 {
-    if mask.len() == 0 {
-        return Kind::NoKind;
+    if mask.is_empty() {
+        return None;
     }
     let Candidate(kind, run) = candidate_at_ends(mask);
-    if is_run(mask, run) {
-        kind
-    } else {
-        Kind::NoKind
-    }
+    if is_run(mask, run) { Some(kind) } else { None }
 }
 
 // The kind of a node that is known to be of some kind, as a cut node of an allowed plan is: the bytes at its ends decide.
 pub fn cut_kind(mask: &[u8]) -> Kind
     requires { T (is_some (kind_of (length mask.now) mask.now)) }
-    ensures { kind_named result ≡ kind_of (length mask.now) mask.now }
+    ensures { some (kind_named result) ≡ kind_of (length mask.now) mask.now }
 {
     let Candidate(kind, _) = candidate_at_ends(mask);
     kind
@@ -182,38 +180,28 @@ fn is_rate_one(mask: &[u8]) -> bool
     mask[0] == UNFROZEN
 }
 
-// What is known of a node's message whatever the node is handed, a mask byte 2 being read as 1: it is ∞ everywhere, or 0 everywhere.
-#[derive(Clone, Copy)]
-pub struct Fixed {
-    pub certain: bool,
-    pub zero: bool,
+// A message that is known whatever the node is handed, a mask byte 2 being read as 1: ∞ everywhere, or 0 everywhere.
+#[derive(Clone, Copy, Debug, PartialEq, Eq)]
+pub enum FixedMessage {
+    Certain,
+    Zero,
 }
 
-// A cut rate-0 node's message is ∞, a cut rate-1 node's is 0. Node q has s positions from b on.
-pub fn fixed_message(plan: &[u8], mask: &[u8], q: usize, b: usize, s: usize) -> Fixed
+// What is known of a node's message: a cut rate-0 node's is ∞, a cut rate-1 node's is 0. Node q has s positions from b on.
+pub fn fixed_message(plan: &[u8], mask: &[u8], q: usize, b: usize, s: usize) -> Option<FixedMessage>
     requires q_in_bounds { (q < length plan.now) × (b + s ≤ length mask.now) }
     requires t { is_cut plan.now q ≡ true → T (is_some (kind_of s (part mask.now b s))) }
-    ensures { FixedAs plan.now s q (part mask.now b s) result.certain result.zero }
+    ensures { FixedAs plan.now s q (part mask.now b s) (is_certain result) (is_zero result) }
 {
-    if plan[q] == 1 {
-        let e = b + s;
-        let certain = is_rate_zero(&mask[b..e]);
-        let zero = is_rate_one(&mask[b..e]);
-        Fixed {
-            certain: certain,
-            zero: zero,
-        }
-    } else {
-        Fixed {
-            certain: false,
-            zero: false,
-        }
+    if plan[q] != 1 {
+        return None;
     }
-}
-
-// Whether a node's message is known whatever the node is handed.
-pub fn is_fixed(m: Fixed) -> bool
-    ensures { result ≡ (m.certain || m.zero) }
-{
-    if m.certain { true } else { m.zero }
+    let e = b + s;
+    if is_rate_zero(&mask[b..e]) {
+        Some(FixedMessage::Certain)
+    } else if is_rate_one(&mask[b..e]) {
+        Some(FixedMessage::Zero)
+    } else {
+        None
+    }
 }

@@ -5,6 +5,7 @@ use mathlib.Core.List.{List, [], ◌∷◌}
 use Prim.Native.Nat.{ℕ, zero, suc, ◌+◌, ◌*◌, ◌^◌, ◌≤◌, ◌<◌}
 use native.Mathlib.Omega.{arith}
 use lib.Dec.{T}
+use borrow.Author.Tests.{ne_eqb, eqb-false}
 use lib.IntN.{ℤ}
 use lib.ListN.{get_or, take, drop}
 use lib.Seq.{get_or-take, get_or-drop}
@@ -12,7 +13,7 @@ use Rattle.model.specs.Lists.{tabulate, every}
 use Rattle.model.specs.Soft.{Soft, certain, soft_zero, ◌at◌, soft_of}
 use Rattle.model.specs.Encoding.{is_unfrozen, frozen_to_zero}
 use Rattle.model.specs.Scan.{Tree, leaf, node, message, left, right, leaf_value, start, to_left, to_right, visit}
-use Rattle.model.proofs.Lists.{double, get_d_tabulate, every-at, at_every, T_true, true-T, absurd_bool}
+use Rattle.model.proofs.Lists.{double, get_d_tabulate, every-at, at_every, T_true, true-T}
 use Rattle.model.proofs.FrozenPositions.{to_zero_at}
 use Rattle.model.proofs.Shortcuts.{ones}
 use Rattle.words.specs.Words.{word, soft}
@@ -148,14 +149,17 @@ start_is mask (suc t) b m e =
     (λ k lt. get_or-drop (2 ^ t) m k 0 ∙ e (2 ^ t + k) (omega arith) ∙ ap (λ (i : ℕ). get_or (frozen_to_zero mask) i 0) (let q : b + (2 ^ t + k) ≡ b + 2 ^ t + k = omega arith in q)))
 
 -- ---- the test, position by position
-pub not-all : (mask : List ℕ) (b s k : ℕ) → k < s → is_unfrozen (get_or mask (b + k) 0) ≡ true → all_frozen mask b s ≡ false
-not-all mask b s k lt o = go (all_frozen mask b s) refl
-  where
-    go : (f : Bool) → all_frozen mask b s ≡ f → f ≡ false
-    go true e = absurd (absurd_bool (is_unfrozen (get_or mask (b + k) 0)) o (frozen-at mask b s e k lt))
-    go false e = refl
 
 pub is_all : (mask : List ℕ) (b s : ℕ) → ((k : ℕ) → k < s → is_unfrozen (get_or mask (b + k) 0) ≡ false) → all_frozen mask b s ≡ true
 unfolding all_frozen
 is_all mask b s none =
     T_true (every s (λ k. not (is_unfrozen (get_or mask (b + k) 0)))) (at_every s (λ k. not (is_unfrozen (get_or mask (b + k) 0))) (λ k lt. true-T (not (is_unfrozen (get_or mask (b + k) 0))) (ap not (none k lt))))
+
+-- a test that is passed exactly if no position is unfrozen
+pub all_frozen-test : (r : Bool) (mask : List ℕ) (b s : ℕ) → (r ≡ true → (k : ℕ) → k < s → get_or mask (b + k) 0 ≡ 0 → ⊥) → (((k : ℕ) → k < s → get_or mask (b + k) 0 ≡ 0 → ⊥) → r ≡ true) → r ≡ all_frozen mask b s
+all_frozen-test true mask b s all none = sym (is_all mask b s (λ k lt. ne_eqb (get_or mask (b + k) 0) 0 (all refl k lt)))
+all_frozen-test false mask b s all none = go (all_frozen mask b s) refl
+  where
+    go : (f : Bool) → all_frozen mask b s ≡ f → false ≡ f
+    go true e = none (λ k lt. eqb-false (get_or mask (b + k) 0) 0 (frozen-at mask b s e k lt))
+    go false e = refl

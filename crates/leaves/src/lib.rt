@@ -59,7 +59,7 @@ fn store_two(w: &mut [i32], d: usize, p: i32, q: i32)
 }
 
 // Two words side by side.
-#[derive(Drop)]
+#[derive(Clone, Copy)]
 struct Two {
     low: i32,
     high: i32,
@@ -131,14 +131,10 @@ fn all_frozen(mask: &[u8], from: usize, size: usize) -> bool
     requires { from + size ≤ length mask.now }
     ensures { result ≡ all_frozen mask.now from size }
 {
-    let mut k = size;
-    while 0 < k {
-        k -= 1;
-        if mask[from + k] == UNFROZEN {
-            return false;
-        }
-    }
-    true
+    mask[from..from + size]
+        .iter()
+        .rev()
+        .all(|byte| *byte != UNFROZEN)
 }
 
 // Visits the node of the four leaves from `from` on, of which some are unfrozen. What one step stores is handed to the next one too, which then need not wait for it
@@ -203,10 +199,8 @@ fn sweeps(work: &mut [i32], mask: &[u8], len: usize, stage: usize, count: usize)
     ensures { Swept mask.now len stage count work.old work.new }
 {
     let list = len * (stage + 1);
-    let mut k: usize = 0;
-    while k < count {
+    for k in 0..count {
         visit(work, mask, len, stage, len, 0, list, k == 0);
-        k += 1;
     }
 }
 

@@ -1,5 +1,5 @@
 -- A decode of a line's mask, sweeps and LLRs: it is accepted, and what it leaves at the front of its buffers is SCAN's answer. Assumes nothing.
-use mathlib.Core.Path.{◌≡◌, sym, ap, ap₂, ◌∙◌}
+use mathlib.Core.Path.{◌≡◌, refl, sym, ap, ap₂, ◌∙◌}
 use mathlib.Core.Bool.{Bool, true, ◌&&◌}
 use mathlib.Core.List.{List, map}
 use Prim.Native.Nat.{ℕ, ◌+◌, ◌*◌, ◌^◌, ◌≤◌, ◌<◌}
@@ -10,6 +10,11 @@ use lib.Dec.{eqb}
 use lib.IntN.{ℤ}
 use lib.ListN.{length, take, drop, length-map, length-take}
 use lib.Seq.{take_at}
+use Rattle.std.specs.Prelude.{Result, IsOk}
+use Rattle.std.specs.declared.result.Result.TheVariants.{Ok, Err}
+use Rattle.inputs.specs.declared.Refusal.{Refusal}
+use Rattle.inputs.specs.Numbers.{number_of}
+use Rattle.inputs.proofs.Rows.{refusal_not_zero}
 use Rattle.model.specs.Lists.{over}
 use Rattle.model.specs.Soft.{Soft, finite, word_of, ◌at◌, soft_of}
 use Rattle.model.specs.Encoding.{unfrozen}
@@ -50,6 +55,11 @@ front n new old e = take_at new (drop (length new) old) n e
 parts : (d : Decoded) (soft : List Soft) (hard payload : List ℕ) (check undecided : ℕ) → soft ≡ d.soft → hard ≡ d.hard → payload ≡ d.payload → check ≡ d.check
     → undecided ≡ d.undecided → decoded soft hard payload check undecided ≡ d
 parts d soft hard payload check undecided a b e f g = rw (a, b, e, f, g)
+
+-- a call whose number is 0 is accepted
+pub accepted : {A : Type 0} (r : Result A Refusal) → number_of r ≡ 0 → IsOk r
+accepted (Ok a) e = refl
+accepted (Err r) e = absurd (refusal_not_zero r e)
 
 -- the planner accepts the mask
 pub plan-accepted : {mask : List ℕ} {k : ℕ} {llrs : List ℤ} → Fit mask k llrs → (room : ℕ) → room ≡ 2048 → plan_number mask room ≡ 0
@@ -110,6 +120,9 @@ module _ (mask plan : List ℕ) (k : ℕ) (llrs : List ℤ) (f : Fit mask k llrs
         (soft-under true n mask (ones_any n mask) (map finite llrs) (llrs-small n llrs (true-T _ f.range)) k j lt)
 
     module _ {number c check undecided : ℕ} {after : Lent} (o : Outcome (given mask plan k llrs b) after number c check undecided) where
+      pub number-is : number ≡ 0
+      number-is = o.number_is ∙ number-zero
+
       cycles_are : c ≡ k * cycles plan n 1 mask
       unfolding decode_cycles
       cycles_are = o.cycles-is ∙ rw accept

@@ -30,17 +30,16 @@ pub record Accepted (bytes mask : List ℕ) (llrs : List ℤ) (n k : ℕ) : Type
   pub size_is : n ≡ length (mask_of (read_line bytes))
   pub sweeps_are : k ≡ sweeps_of (read_line bytes)
 
-pub accept : {bytes mask : List ℕ} (mask₀ : List ℕ) {llrs : List ℤ} (llrs₀ : List ℤ) {number n k : ℕ} → let line : Reading = read_line bytes in number ≡ 0 → (number ≡ line_number line) × (n ≡ line_size line) × (k ≡ line_sweeps line)
-    → mask ≡ line_mask line mask₀ → llrs ≡ line_llrs line llrs₀ → Accepted bytes mask llrs n k
-accept {bytes} mask₀ llrs₀ z r em el =
+pub accept : {bytes mask : List ℕ} (mask₀ : List ℕ) {llrs : List ℤ} (llrs₀ : List ℤ) {n k : ℕ} → let line : Reading = read_line bytes in
+    0 ≡ line_number line → n ≡ line_size line → k ≡ line_sweeps line → mask ≡ line_mask line mask₀ → llrs ≡ line_llrs line llrs₀ → Accepted bytes mask llrs n k
+accept {bytes} mask₀ llrs₀ z en ek em el =
     let line : Reading = read_line bytes in
-    let zero_is : line_number line ≡ 0 = sym r.0 ∙ z in
     record {
-      zero_is = zero_is;
-      mask_is = rw (r.1, em) (mask-front line zero_is mask₀);
-      llrs_are = rw (r.1, el) (llrs-front line zero_is llrs₀);
-      size_is = r.1 ∙ size_is line zero_is;
-      sweeps_are = r.2 ∙ sweeps_are line zero_is;
+      zero_is = sym z;
+      mask_is = rw (en, em) (mask-front line (sym z) mask₀);
+      llrs_are = rw (en, el) (llrs-front line (sym z) llrs₀);
+      size_is = en ∙ size_is line (sym z);
+      sweeps_are = ek ∙ sweeps_are line (sym z);
     }
 
 module _ {bytes mask : List ℕ} {llrs : List ℤ} {n k : ℕ} (a : Accepted bytes mask llrs n k) where

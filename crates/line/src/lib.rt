@@ -14,7 +14,7 @@ use planner::plan_mask;
 use printer::{print_decoded, print_refusal};
 use reader::read_line;
 
-// Decodes along an allowed plan and prints the answer.
+// Decodes along an allowed plan and prints the answer. What was read of a line passes the decoder's tests, and the planner's below.
 fn answer_along(mask: &[u8], plan: &[u8], sweeps: usize, llrs: &[i16], out: &mut [u8]) -> usize
     requires fit { Fit mask.now sweeps llrs.now }
     requires allowed { Allowed (exponent (length mask.now)) plan.now mask.now }
@@ -24,7 +24,7 @@ fn answer_along(mask: &[u8], plan: &[u8], sweeps: usize, llrs: &[i16], out: &mut
     let mut hard = [0u8; 1024];
     let mut payload = [0u8; 1024];
     let mut work = [0i32; 13312];
-    let d = decode(
+    let decoded = decode(
         mask,
         plan,
         sweeps,
@@ -33,16 +33,17 @@ fn answer_along(mask: &[u8], plan: &[u8], sweeps: usize, llrs: &[i16], out: &mut
         &mut hard,
         &mut payload,
         &mut work,
-    );
+    )
+    .unwrap();
     let size = mask.len();
     let k = unfrozen_of(mask);
     print_decoded(
-        d.cycles,
+        decoded.cycles,
         &soft[..size],
         &hard[..size],
         &payload[..k],
-        d.check,
-        d.undecided,
+        decoded.check,
+        decoded.undecided,
         out,
     )
 }
@@ -53,7 +54,7 @@ fn answer_planned(mask: &[u8], sweeps: usize, llrs: &[i16], out: &mut [u8]) -> u
     ensures { Printed (planned_text mask.now sweeps llrs.now) max_text out.old out.new result }
 {
     let mut plan = [0u8; 2048];
-    plan_mask(mask, &mut plan);
+    plan_mask(mask, &mut plan).unwrap();
     let size = 2 * mask.len();
     answer_along(mask, &plan[..size], sweeps, llrs, out)
 }
@@ -64,10 +65,8 @@ pub fn answer(bytes: &[u8], out: &mut [u8]) -> usize
 {
     let mut mask = [0u8; 1024];
     let mut llrs = [0i16; 1024];
-    let line = read_line(bytes, &mut mask, &mut llrs);
-    if line.number != 0 {
-        return print_refusal(line.number, out);
+    match read_line(bytes, &mut mask, &mut llrs) {
+        Ok(line) => answer_planned(&mask[..line.size], line.sweeps, &llrs[..line.size], out),
+        Err(refusal) => print_refusal(refusal.number(), out),
     }
-    let size = line.size;
-    answer_planned(&mask[..size], line.sweeps, &llrs[..size], out)
 }

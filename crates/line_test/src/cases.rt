@@ -4,7 +4,7 @@ ghost use Rattle.std.specs.Prelude.{◌+◌, ◌<◌, ◌≤◌};
 use crate::texts::{Text, text_of};
 use std::io;
 use test_tools::buffers::{bytes, lent_bytes};
-use test_tools::numbers::{both, least, one_if};
+use test_tools::numbers::{least, one_if};
 use test_tools::report::{end_line, print_values};
 use test_tools::tally::{Count, sum};
 use test_tools::texts::{find, part, put_all};
@@ -62,18 +62,13 @@ fn answer(input: Text, room: usize) -> Text {
     Text { bytes: out, length }
 }
 
-// What that call is to leave: the text, as far as there is room.
+// What that call is to leave: the text, as far as there is room. `cut` in replay_test is the same for a shorter buffer: one function for
+// both would take a `Text` with the size of its buffer as a parameter, at every use of it.
 fn expected(text: Text, room: usize) -> Text {
     let whole = text.bytes;
     let mut out = [FILLER; 20480];
     let length = put_all(&mut out, 0, bytes(&whole, least(text.length, room)));
     Text { bytes: out, length }
-}
-
-fn same_text(a: Text, b: Text) -> bool {
-    let x = a.bytes;
-    let y = b.bytes;
-    both(a.length == b.length, check::same(&x, &y))
 }
 
 // Whether an input's answer in a buffer of so many bytes is the text, as far as there is room, and leaves the bytes behind it.
@@ -87,7 +82,7 @@ fn answered(
     room: usize,
 ) -> io::Result<bool> {
     let got = answer(input, room);
-    if same_text(got, expected(text, room)) {
+    if got == expected(text, room) {
         return Ok(true);
     }
     print_mismatch(rt, number, room, record, got)?;
@@ -111,12 +106,9 @@ fn shorter(
     text: Text,
 ) -> io::Result<Count> {
     let length = least(text.length, ROOM);
-    let step = step_for(length);
     let mut total = c;
-    let mut room = 0;
-    while room < length {
+    for room in (0..length).step_by(step_for(length)) {
         total = with_call(total, answered(rt, number, record, input, text, room)?);
-        room += step;
     }
     Ok(total)
 }

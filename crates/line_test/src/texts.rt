@@ -8,10 +8,8 @@ use test_tools::texts::{find, number, part, put, put_all};
 // Stores a text so many times.
 fn put_times(s: &mut [u8], from: usize, text: &[u8], count: u32) -> usize {
     let mut at = from;
-    let mut i = 0;
-    while i < count {
+    for _ in 0..count {
         at = put_all(s, at, text);
-        i += 1;
     }
     at
 }
@@ -88,10 +86,12 @@ fn put_token(out: &mut [u8], n: usize, s: &[u8], t: Token) -> usize {
     }
 }
 
-// The bytes that a text of the file stands for; answers how many.
+// The bytes that a text of the file stands for; answers how many. `unpack` in replay_test is the same over pieces: one loop for both would
+// be handed what reads a token and what stores it, which is no shorter than the loop.
 fn unescape(s: &[u8], out: &mut [u8]) -> usize {
     let mut n = 0;
     let mut at = 0;
+    // No `for`: a token says itself where the next one begins.
     while at < s.len() {
         let t = token_at(s, at);
         n = put_token(out, n, s, t);
@@ -102,7 +102,7 @@ fn unescape(s: &[u8], out: &mut [u8]) -> usize {
 
 // ---- texts by value
 
-#[derive(Clone, Copy)]
+#[derive(Clone, Copy, PartialEq)]
 pub struct Text {
     pub bytes: [u8; 20480],
     pub length: usize,

@@ -1,5 +1,5 @@
 -- What the tests of a call leave, and the buffer afterwards. Assumes nothing.
-use mathlib.Core.Path.{◌≡◌, refl, sym, ap, ◌∙◌, subst}
+use mathlib.Core.Path.{◌≡◌, sym, ap, ◌∙◌, subst}
 use mathlib.Core.Bool.{Bool, true, false, cond, not, ◌&&◌}
 use mathlib.Core.List.{List, [], ◌∷◌}
 use Prim.Native.Nat.{ℕ, ◌+◌, ◌^◌, ◌≤◌, ◌<◌}
@@ -8,8 +8,8 @@ use lib.Count.{ones}
 use lib.Dec.{eqb, leb, leb→le}
 use lib.ListN.{length}
 use borrow.Author.Tests.{ne_eqb}
-use Rattle.model.specs.Lists.{tabulate, over}
-use Rattle.model.specs.Refusals.{refusal, exponent, row_11}
+use Rattle.model.specs.Lists.{tabulate, bit, over}
+use Rattle.model.specs.Refusals.{exponent, row_11}
 use Rattle.model.specs.Masks.{ahead, weight_byte, weight_mask, row_16, weight_number, weight_mask_after}
 use Rattle.model.specs.Distance.{has_distance, no_mask, row_17, distance_number, distance_found, distance_mask_after}
 use Rattle.model.proofs.Lists.{and_l, true-T}
@@ -18,14 +18,16 @@ use Rattle.model.proofs.MaskCalls.{Fits, fits}
 use Rattle.model.proofs.RankOrder.{weight-made, weight-unfrozen}
 use Rattle.model.proofs.LargestWeight.{last_row}
 use Rattle.model.proofs.Distance.{has-row, none-exact}
-use Rattle.masks.specs.Answers.{answer_number, answer_found, refused_by}
-use Rattle.masks.specs.declared.ForDistance.{ForDistance}
-use Rattle.masks.specs.declared.ForDistance.TheVariants.{Written, NoMask}
+use Rattle.inputs.specs.declared.Refusal.{Refusal}
+use Rattle.inputs.specs.Numbers.{refusal_number, of_accepted}
+use Rattle.std.specs.Prelude.{Result, IsErr}
+use Rattle.inputs.proofs.Rows.{refusal_not_zero}
 
+-- a refused call leaves the buffer, and an accepted one overwrites its front
 module _ (N K : ℕ) (out : List ℕ) where
-  pub refused : {number : ℕ} → number ≡ weight_number N K (length out) → (number ≡ 0 → ⊥) → out ≡ weight_mask_after N K out
+  pub refused : (r : Refusal) → refusal_number r ≡ weight_number N K (length out) → out ≡ weight_mask_after N K out
   unfolding weight_mask_after
-  refused is n = sym (rw (ne_eqb (weight_number N K (length out)) 0 (λ z. n (is ∙ z))))
+  refused r is = sym (rw (ne_eqb (weight_number N K (length out)) 0 (λ z. refusal_not_zero r (is ∙ z))))
 
   pub written : (z : weight_number N K (length out) ≡ 0) → over (tabulate N (weight_byte N K)) out ≡ weight_mask_after N K out
   unfolding weight_mask_after weight_mask
@@ -47,33 +49,17 @@ fits_distance N K d room e =
       one = leb→le 1 K (and_l (leb 1 K) (leb 1 d) (true-T (leb 1 K && leb 1 d) three.0));
     }
 
--- a refused call's number is one of the four
-refused_case : (N K d room : ℕ) → let number = distance_number N K d room in (number ≡ 0 → ⊥) → (answer_number (refused_by number) ≡ number) × (answer_found (refused_by number) ≡ 0)
-unfolding distance_number refusal
-refused_case N K d room = go (not (eqb (exponent N) 0)) (leb K N) (leb 1 K && leb 1 d) (leb N room)
-  where
-    go : (a b c e : Bool) → let number : ℕ = cond a (cond b (cond c (cond e 0 11) 17) 16) 1 in
-        (number ≡ 0 → ⊥) → (answer_number (refused_by number) ≡ number) × (answer_found (refused_by number) ≡ 0)
-    go false b c e n = (refl, refl)
-    go true false c e n = (refl, refl)
-    go true true false e n = (refl, refl)
-    go true true true false n = (refl, refl)
-    go true true true true n = absurd (n refl)
+-- a refused call says of no mask that it was written
+pub none-found : (answer : Result Bool Refusal) → IsErr answer → of_accepted bit answer ≡ 0
+none-found answer h = grind arith
 
 module _ (N K d : ℕ) (out : List ℕ) where
-  -- what a call has to show: its number, whether a mask was written, and the buffer
-  abbrev pub Answered : ℕ → ℕ → List ℕ → Type 0
-  Answered number found after =
-      (number ≡ distance_number N K d (length out)) × ((found ≡ distance_found N K d (length out)) × (after ≡ distance_mask_after N K d out))
-
-  pub distance_refused : {number : ℕ} → number ≡ distance_number N K d (length out) → (number ≡ 0 → ⊥) → (answer : ForDistance) → answer ≡ refused_by number
-      → Answered (answer_number answer) (answer_found answer) out
+  -- a refused call writes no mask and leaves the buffer
+  pub distance_refused : (r : Refusal) → refusal_number r ≡ distance_number N K d (length out) → (0 ≡ distance_found N K d (length out)) × (out ≡ distance_mask_after N K d out)
   unfolding distance_mask_after distance_found
-  distance_refused is n answer e =
-      let r = refused_case N K d (length out) (λ z. n (is ∙ z)) in
-      let f = ne_eqb (distance_number N K d (length out)) 0 (λ z. n (is ∙ z)) in
-      let c = e ∙ ap refused_by is in
-      (ap answer_number c ∙ r.0, (ap answer_found c ∙ r.1 ∙ sym (rw f), sym (rw f)))
+  distance_refused r is =
+      let f = ne_eqb (distance_number N K d (length out)) 0 (λ z. refusal_not_zero r (is ∙ z)) in
+      (sym (rw f), sym (rw f))
 
   module _ (z : distance_number N K d (length out) ≡ 0) where
     f : FitsDistance N K (length out)
@@ -96,13 +82,13 @@ module _ (N K d : ℕ) (out : List ℕ) where
           has-row n (weight_mask n K) d (weight-made n K) (subst (λ (x : ℕ). 1 ≤ x) (sym (weight-unfrozen n K fewer)) f.one)
           ∙ ap (leb d) (last_row n K p (subst (λ (x : ℕ). p < x) power inside) (subst (λ (x : ℕ). ahead x p + 1 ≡ K) power last))
 
-      -- the answer by what the test finds, and the buffer, which is written exactly where it finds the property
-      pub distance_answered : (found : Bool) → found ≡ leb d (2 ^ ones p) → (answer : ForDistance) → answer ≡ cond found Written NoMask → (after : List ℕ)
-          → after ≡ cond found (over (tabulate N (weight_byte N K)) out) out → Answered (answer_number answer) (answer_found answer) after
+      -- whether a mask was written, by what the test finds, and the buffer, which is written exactly where it finds the property
+      pub distance_answered : (found : Bool) → found ≡ leb d (2 ^ ones p)
+          → (bit found ≡ distance_found N K d (length out)) × (cond found (over (tabulate N (weight_byte N K)) out) out ≡ distance_mask_after N K d out)
       unfolding distance_mask_after distance_found weight_mask
-      distance_answered true e answer is after ea =
+      distance_answered true e =
           let t = row-test ∙ sym e in
-          (ap answer_number is ∙ sym z, (ap answer_found is ∙ sym (rw (z, exact, t)), ea ∙ ap (λ (n : ℕ). over (tabulate n (weight_byte n K)) out) power ∙ sym (rw (z, t))))
-      distance_answered false e answer is after ea =
+          (sym (rw (z, exact, t)), ap (λ (n : ℕ). over (tabulate n (weight_byte n K)) out) power ∙ sym (rw (z, t)))
+      distance_answered false e =
           let t = row-test ∙ sym e in
-          (ap answer_number is ∙ sym z, (ap answer_found is ∙ sym (rw (z, exact, t)), ea ∙ sym (rw (z, t))))
+          (sym (rw (z, exact, t)), sym (rw (z, t)))

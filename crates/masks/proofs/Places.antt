@@ -41,20 +41,13 @@ unfolding seen_at
 seen_most N r = sum-most N (λ j. ltb (ahead 1024 j) r)
 
 module _ (N : ℕ) (few : N ≤ 1024) where
-  seen_all : (r : ℕ) → 1024 ≤ r → seen_at N r ≡ N
+  -- all of them stand in the table
+  pub seen_all : (r : ℕ) → 1024 ≤ r → seen_at N r ≡ N
   unfolding seen_at
   seen_all r h =
       total_ext ◌+◌ 0 add-monoid N (λ j. bit (ltb (ahead 1024 j) r)) (λ j. 1)
       (λ j J. bit_yes (ltb (ahead 1024 j) r) (lt-ltb (ahead 1024 j) r (omega (arith, place-below 1024 j (omega arith)))))
       ∙ sum_ones N
-
-  -- where fewer than all positions were seen, the table has more of them
-  pub places-left : (seen r : ℕ) → seen < N → seen ≡ seen_at N r → r < 1024
-  places-left seen r h e = go (dec_lt r 1024)
-    where
-      go : Dec (r < 1024) → r < 1024
-      go (yes l) = l
-      go (no n) = let z : ⊥ = omega (arith, seen_all r (omega arith)) in absurd z
 
   module _ (p r : ℕ) (small : p < 1024) (there : ahead 1024 p ≡ r) where
     -- no other position stands at place r

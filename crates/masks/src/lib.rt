@@ -3,13 +3,12 @@
 
 ghost use Rattle.std.specs.Prelude.{◌≡◌, cond, ℕ, ◌+◌, ◌^◌, ◌<◌, ◌≤◌, length};
 ghost use Rattle.std.specs.Int.Count.{ones};
-ghost use Rattle.model.specs.Lists.{tabulate, over};
+ghost use Rattle.model.specs.Lists.{tabulate, bit, over};
 ghost use Rattle.model.specs.Masks.{weight, matrix_row, ahead, weight_byte, weight_number, weight_mask_after};
 ghost use Rattle.model.specs.Distance.{distance_number, distance_found, distance_mask_after};
-ghost use Rattle.masks.specs.declared.ForDistance.TheVariants.{Written, NoMask};
-ghost use Rattle.masks.specs.Answers.{answer_number, answer_found, refused_by};
+ghost use Rattle.inputs.specs.Numbers.{number_of, of_accepted};
 
-use inputs::{UNFROZEN, both, exponent_of, tested};
+use inputs::{Refusal, UNFROZEN, exponent_of};
 
 mod table;
 
@@ -19,7 +18,7 @@ pub fn row_weight(i: usize) -> usize
     ensures value { result ≡ 2 ^ ones i }
     ensures by_index { (n : ℕ) → i < 2 ^ n → result ≡ weight (matrix_row n i) }
 {
-    1usize << u32::count_ones(i as u32)
+    1 << i.count_ones()
 }
 
 // The mask byte of a position that is unfrozen or not.
@@ -35,12 +34,9 @@ fn choose(size: usize, k: usize, mask: &mut [u8])
     requires { (size ≤ 1024) × (size ≤ length mask.old) }
     ensures { mask.new ≡ over (tabulate size (weight_byte size k)) mask.old }
 {
-    let ranks = table::ranks();
     let mut seen: usize = 0;
-    let mut place: usize = 0;
-    while place < 1024 {
-        let p = ranks[place] as usize;
-        place += 1;
+    for p in table::ranks() {
+        let p = p as usize;
         if p < size {
             mask[p] = mask_byte(seen < k);
             seen += 1;
@@ -49,68 +45,52 @@ fn choose(size: usize, k: usize, mask: &mut [u8])
 }
 
 // Tests 1, 16 and 11.
-fn weight_tests(size: usize, k: usize, room: usize) -> u32
-    ensures { result ≡ weight_number size k room }
+#[tactic(auto, unfolding(model::specs::Masks::weight_number, model::specs::Refusals::refusal))]
+fn weight_tests(size: usize, k: usize, room: usize) -> Result<(), Refusal>
+    ensures { number_of result ≡ weight_number size k room }
 {
-    let sized = exponent_of(size) != 0;
-    let last = tested(size <= room, 0, 11);
-    let after = tested(k <= size, last, 16);
-    tested(sized, after, 1)
+    if exponent_of(size) == 0 {
+        return Err(Refusal::Length);
+    }
+    if k > size {
+        return Err(Refusal::UnfrozenCount);
+    }
+    if room < size {
+        return Err(Refusal::ShortOutput);
+    }
+    Ok(())
 }
 
-// The mask of N and K by row weight, into the first N bytes of `mask`. The answer is the number.
-pub fn mask_by_weight(size: usize, k: usize, mask: &mut [u8]) -> u32
-    ensures value { result ≡ weight_number size k (length mask.old) }
+// The mask of N and K by row weight, into the first N bytes of `mask`.
+pub fn mask_by_weight(size: usize, k: usize, mask: &mut [u8]) -> Result<(), Refusal>
+    ensures value { number_of result ≡ weight_number size k (length mask.old) }
     ensures mask_after { mask.new ≡ weight_mask_after size k mask.old }
 {
-    let number = weight_tests(size, k, mask.len());
-    if number != 0 {
-        return number;
-    }
+    weight_tests(size, k, mask.len())?;
     choose(size, k, mask);
-    0
+    Ok(())
 }
 
 // ---- a wanted distance
 
-// What `mask_for_distance` answers: a mask was written, there is none, or the call is refused. `answer_number` and `answer_found`
-// (specs/Answers.antt) give the number of each case and whether a mask was written.
-#[derive(Drop)]
-pub enum ForDistance {
-    Written,
-    NoMask,
-    BadLength,
-    BadCount,
-    NothingWanted,
-    ShortBuffer,
-}
-
-// The case of a refusal's number.
-fn refused_by(number: u32) -> ForDistance
-    ensures { result ≡ refused_by number }
-{
-    if number == 1 {
-        return ForDistance::BadLength;
-    }
-    if number == 16 {
-        return ForDistance::BadCount;
-    }
-    if number == 17 {
-        return ForDistance::NothingWanted;
-    }
-    ForDistance::ShortBuffer
-}
-
 // Tests 1, 16, 17 and 11.
-fn distance_tests(size: usize, k: usize, d: usize, room: usize) -> u32
-    ensures { result ≡ distance_number size k d room }
+#[tactic(auto, unfolding(model::specs::Distance::distance_number, model::specs::Refusals::refusal))]
+fn distance_tests(size: usize, k: usize, d: usize, room: usize) -> Result<(), Refusal>
+    ensures { number_of result ≡ distance_number size k d room }
 {
-    let sized = exponent_of(size) != 0;
-    let wanted = both(1 <= k, 1 <= d);
-    let fourth = tested(size <= room, 0, 11);
-    let third = tested(wanted, fourth, 17);
-    let second = tested(k <= size, third, 16);
-    tested(sized, second, 1)
+    if exponent_of(size) == 0 {
+        return Err(Refusal::Length);
+    }
+    if size < k {
+        return Err(Refusal::UnfrozenCount);
+    }
+    if k == 0 || d == 0 {
+        return Err(Refusal::NothingWanted);
+    }
+    if room < size {
+        return Err(Refusal::ShortOutput);
+    }
+    Ok(())
 }
 
 // The unfrozen position that ranks last: k - 1 of the positions below `size` rank before it.
@@ -118,47 +98,31 @@ fn last_ranked(size: usize, k: usize) -> usize
     requires { (size ≤ 1024) × (1 ≤ k) × (k ≤ size) }
     ensures { (result < size) × (ahead size result + 1 ≡ k) }
 {
-    let ranks = table::ranks();
-    let mut passed: usize = 0;
-    let mut place: usize = 0;
-    let mut last: usize = 0;
-    while passed < k {
-        let p = ranks[place] as usize;
-        place += 1;
+    let mut passed = 0;
+    for p in table::ranks() {
+        let p = p as usize;
         if p < size {
-            last = p;
             passed += 1;
+            if passed == k {
+                return p;
+            }
         }
     }
-    last
+    unreachable!()
 }
 
-// The answer to a call that is accepted.
-fn answer_of(written: bool) -> ForDistance
-    ensures { result ≡ cond written Written NoMask }
-{
-    if written {
-        ForDistance::Written
-    } else {
-        ForDistance::NoMask
-    }
-}
-
-// The mask of N and K by row weight where its every non-zero word has d ones or more, into the first N bytes of `mask`; otherwise
-// no mask of that N and K has the property. No non-zero word of the mask has fewer ones than the row of the unfrozen position that
-// ranks last.
-pub fn mask_for_distance(size: usize, k: usize, d: usize, mask: &mut [u8]) -> ForDistance
-    ensures result_value { answer_number result ≡ distance_number size k d (length mask.old) }
-    ensures result_value_2 { answer_found result ≡ distance_found size k d (length mask.old) }
+// The mask of N and K by row weight where its every non-zero word has d ones or more, into the first N bytes of `mask`, and whether
+// it was written; otherwise no mask of that N and K has the property. No non-zero word of the mask has fewer ones than the row of
+// the unfrozen position that ranks last.
+pub fn mask_for_distance(size: usize, k: usize, d: usize, mask: &mut [u8]) -> Result<bool, Refusal>
+    ensures number { number_of result ≡ distance_number size k d (length mask.old) }
+    ensures found { of_accepted bit result ≡ distance_found size k d (length mask.old) }
     ensures mask_after { mask.new ≡ distance_mask_after size k d mask.old }
 {
-    let number = distance_tests(size, k, d, mask.len());
-    if number != 0 {
-        return refused_by(number);
-    }
+    distance_tests(size, k, d, mask.len())?;
     let found = d <= row_weight(last_ranked(size, k));
     if found {
         choose(size, k, mask);
     }
-    answer_of(found)
+    Ok(found)
 }

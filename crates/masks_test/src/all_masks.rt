@@ -46,12 +46,10 @@ fn ones(set: usize) -> usize {
 // Row i of the polar matrix: a 1 in column j where each 1 among the digits of j is one of i too. It is the same for every N above i.
 fn row(i: usize) -> usize {
     let mut columns = 0;
-    let mut j = 0;
-    while j < 16 {
-        if (j & i) == j {
-            columns = columns | (1usize << j);
+    for j in 0..16 {
+        if j & i == j {
+            columns |= 1usize << j;
         }
-        j += 1;
     }
     columns
 }
@@ -61,12 +59,10 @@ fn all_words(sets: usize) -> Numbers
     requires { sets ≤ 65536 }
 {
     let mut words = [0usize; 65536];
-    let mut s = 1;
-    while s < sets {
+    for s in 1..sets {
         let i = lowest(s);
         let rest = without(s, i);
         words[s] = words[rest] ^ row(i);
-        s += 1;
     }
     words
 }
@@ -81,13 +77,11 @@ fn least_weight(mask: usize, words: &Numbers, leasts: &Numbers) -> usize
     requires { mask < 65536 }
 {
     let mut weight = ones(words[mask]);
-    let mut i = 0;
-    while i < 16 {
+    for i in 0..16 {
         if holds(mask, i) {
             let rest = without(mask, i);
-            weight = least(weight, leasts[rest]);
+            weight = weight.min(leasts[rest]);
         }
-        i += 1;
     }
     weight
 }
@@ -98,11 +92,9 @@ fn all_leasts(sets: usize) -> Numbers
 {
     let words = all_words(sets);
     let mut leasts = [NO_WEIGHT; 65536];
-    let mut mask = 1;
-    while mask < sets {
+    for mask in 1..sets {
         let weight = least_weight(mask, &words, &leasts);
         leasts[mask] = weight;
-        mask += 1;
     }
     leasts
 }
@@ -112,12 +104,10 @@ fn all_leasts(sets: usize) -> Numbers
 // The least of 2 to the power of the ones of i over the unfrozen positions i.
 fn least_row(mask: usize) -> usize {
     let mut weight = NO_WEIGHT;
-    let mut i = 0;
-    while i < 16 {
+    for i in 0..16 {
         if holds(mask, i) {
-            weight = least(weight, length_of(ones(i)));
+            weight = weight.min(length_of(ones(i)));
         }
-        i += 1;
     }
     weight
 }
@@ -140,38 +130,32 @@ fn right_least(rt: &impl Print, n: usize, mask: usize, weight: usize) -> io::Res
 fn run_masks(rt: &impl Print, n: usize, sets: usize, leasts: &Numbers) -> io::Result<Count>
     requires { sets ≤ 65536 }
 {
+    let masks = minus(sets, 1);
     let mut right = 0;
-    let mut mask = 1;
-    while mask < sets {
+    for mask in 1..sets {
         right += one_if(right_least(rt, n, mask, leasts[mask])?);
-        mask += 1;
     }
     Ok(Count {
-        cases: mask - 1,
+        cases: masks,
         right,
-        calls: mask - 1,
+        calls: masks,
     })
 }
 
 // ---- against the call
 
-fn most(a: usize, b: usize) -> usize {
-    if a < b { b } else { a }
-}
-
 // The largest least weight of the masks with K unfrozen positions.
 fn largest(k: usize, sets: usize, leasts: &Numbers) -> usize
     requires { sets ≤ 65536 }
 {
-    let mut weight = 0;
-    let mut mask = 1;
-    while mask < sets {
-        if ones(mask) == k {
-            weight = most(weight, leasts[mask]);
-        }
-        mask += 1;
-    }
-    weight
+    leasts[..sets]
+        .iter()
+        .enumerate()
+        .skip(1)
+        .filter(|(mask, _)| ones(*mask) == k)
+        .map(|(_, weight)| *weight)
+        .max()
+        .unwrap_or(0)
 }
 
 // Two calls for each K: a mask is there for the largest least weight, and none for one more.
@@ -179,17 +163,15 @@ fn run_largest(rt: &impl Print, n: usize, sets: usize, leasts: &Numbers) -> io::
     requires { (n ≤ 16) × (sets ≤ 65536) }
 {
     let mut right = 0;
-    let mut k = 0;
-    while k < n {
-        k += 1;
+    for k in 1..=n {
         let d = largest(k, sets, leasts);
-        let more = std::num::wrapping_add_usize(d, 1);
+        let more = d.wrapping_add(1);
         right += one_if(right_mask(rt, n, k, d)?) + one_if(right_none(rt, n, k, more)?);
     }
     Ok(Count {
         cases: 0,
         right,
-        calls: 2 * k,
+        calls: 2 * n,
     })
 }
 

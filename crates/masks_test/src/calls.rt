@@ -1,7 +1,7 @@
 // The call for a mask by row weight, on the first bytes of a buffer that holds fillers.
 use std::io;
 use test_tools::buffers::{Bytes, byte_at, lent_bytes};
-use test_tools::numbers::both;
+use test_tools::numbers::number_of;
 use test_tools::report::{end_line, print_values};
 
 // What a mask buffer holds before a call; no mask has this byte.
@@ -19,12 +19,12 @@ struct Answer {
 
 fn called(n: usize, k: usize, room: usize) -> Answer {
     let mut mask = [FILLER; 4112];
-    let number = masks::mask_by_weight(n, k, lent_bytes(&mut mask, room));
+    let answer = masks::mask_by_weight(n, k, lent_bytes(&mut mask, room));
     Answer {
         n,
         k,
         room,
-        number,
+        number: number_of(&answer),
         mask,
     }
 }
@@ -37,14 +37,7 @@ pub fn mask_of(n: usize, k: usize) -> Bytes {
 
 // The first place with different bytes; 4112 where there is none.
 pub fn first_difference(a: Bytes, b: Bytes) -> usize {
-    let mut i = 0;
-    while i < 4112 {
-        if a[i] != b[i] {
-            return i;
-        }
-        i += 1;
-    }
-    i
+    a.iter().zip(&b).position(|(x, y)| *x != *y).unwrap_or(4112)
 }
 
 // The place with different bytes, if there is one, and the end of the line.
@@ -92,7 +85,7 @@ pub fn right(
     let got = called(n, k, room);
     let left = got.mask;
     let place = first_difference(left, mask);
-    if both(got.number == number, place == 4112) {
+    if got.number == number && place == 4112 {
         return Ok(true);
     }
     print_mismatch(rt, got, number, mask, place)?;

@@ -2,21 +2,17 @@
 ghost use Rattle.std.specs.Prelude.{◌≤◌};
 
 use crate::calls::{FILLER, first_difference, mask_of, print_difference};
-use masks::ForDistance;
+use inputs::Refusal;
 use std::io;
 use test_tools::buffers::{Bytes, lent_bytes};
-use test_tools::numbers::{both, minus};
+use test_tools::numbers::minus;
 use test_tools::report::print_values;
 
 // An answer as one number: a refusal's own, 0 where there is no mask, 256 where one was written.
-fn answer_of(outcome: ForDistance) -> u32 {
+fn answer_of(outcome: Result<bool, Refusal>) -> u32 {
     match outcome {
-        ForDistance::Written => 256,
-        ForDistance::NoMask => 0,
-        ForDistance::BadLength => 1,
-        ForDistance::BadCount => 16,
-        ForDistance::NothingWanted => 17,
-        ForDistance::ShortBuffer => 11,
+        Ok(written) => 256 * u32::from(written),
+        Err(refusal) => refusal.number(),
     }
 }
 
@@ -77,7 +73,7 @@ pub fn right_answer(
     let got = called(n, k, d, room);
     let left = got.mask;
     let place = first_difference(left, mask);
-    if both(got.answer == answer, place == 4112) {
+    if got.answer == answer && place == 4112 {
         return Ok(true);
     }
     print_mismatch(rt, got, answer, mask, place)?;

@@ -27,9 +27,7 @@ fn run_edge(rt: &impl Print, n: usize, k: usize, d: usize) -> io::Result<Count>
 pub fn run_edges(rt: &impl Print, line: &[u8]) -> io::Result<Count> {
     let n = least(value_at(line, 1), 1024);
     let mut count = zero();
-    let mut k = 0;
-    while k < n {
-        k += 1;
+    for k in 1..=n {
         count = sum(count, run_edge(rt, n, k, length_of(exponent_at(line, k)))?);
     }
     Ok(count)

@@ -4,22 +4,10 @@ ghost use Rattle.std.specs.Prelude.{◌≤◌};
 use crate::calls::{FILLER, right};
 use crate::fields::position_at;
 use std::io;
-use test_tools::buffers::Bytes;
+use test_tools::buffers::{Bytes, filled};
 use test_tools::numbers::{least, one_if};
 use test_tools::tally::{Count, sum};
 use test_tools::texts::value_at;
-
-// The first n positions frozen, and fillers behind them.
-fn all_frozen(n: usize) -> Bytes {
-    let end = least(n, 4112);
-    let mut mask = [FILLER; 4112];
-    let mut i = 0;
-    while i < end {
-        mask[i] = 1;
-        i += 1;
-    }
-    mask
-}
 
 // Calls with a buffer of N bytes and with one of up to eight more, whose tail stays.
 fn run_mask(rt: &impl Print, n: usize, k: usize, mask: Bytes) -> io::Result<Count>
@@ -37,16 +25,15 @@ fn run_mask(rt: &impl Print, n: usize, k: usize, mask: Bytes) -> io::Result<Coun
 // A line is order N POSITIONS. The mask of K is the one of K - 1 with one position more unfrozen.
 pub fn run_order(rt: &impl Print, line: &[u8]) -> io::Result<Count> {
     let n = least(value_at(line, 1), 1024);
-    let mut mask = all_frozen(n);
+    // All positions frozen.
+    let mut mask = filled(n, 1, FILLER);
     let mut count = run_mask(rt, n, 0, mask)?;
-    let mut k = 0;
-    while k < n {
-        let p = position_at(line, k);
+    for rank in 0..n {
+        let p = position_at(line, rank);
         if p < 4112 {
             mask[p] = 0;
         }
-        k += 1;
-        count = sum(count, run_mask(rt, n, k, mask)?);
+        count = sum(count, run_mask(rt, n, rank + 1, mask)?);
     }
     Ok(count)
 }

@@ -3,7 +3,7 @@ ghost use Rattle.std.specs.Prelude.{◌<◌};
 
 use crate::fields::position_at;
 use std::io;
-use test_tools::numbers::{least, one_if};
+use test_tools::numbers::{least, minus, one_if};
 use test_tools::report::{end_line, print_values};
 use test_tools::tally::Count;
 use test_tools::texts::value_at;
@@ -11,13 +11,7 @@ use test_tools::texts::value_at;
 // ---- against the matrix
 
 fn ones(bits: [u8; 1024]) -> usize {
-    let mut count = 0;
-    let mut i = 0;
-    while i < 1024 {
-        count += one_if(bits[i] == 1);
-        i += 1;
-    }
-    count
+    bits.iter().filter(|bit| **bit == 1).count()
 }
 
 // The ones of row i: the transform of the unit vector.
@@ -49,10 +43,8 @@ fn right_weight(rt: &impl Print, i: usize) -> io::Result<bool>
 
 pub fn run_weights(rt: &impl Print) -> io::Result<Count> {
     let mut right = 0;
-    let mut i = 0;
-    while i < 1024 {
+    for i in 0..1024 {
         right += one_if(right_weight(rt, i)?);
-        i += 1;
     }
     Ok(Count {
         cases: 1024,
@@ -86,15 +78,14 @@ fn right_step(rt: &impl Print, before: usize, after: usize) -> io::Result<bool> 
 // A line is weights N POSITIONS.
 pub fn run_along(rt: &impl Print, line: &[u8]) -> io::Result<Count> {
     let n = least(value_at(line, 1), 1024);
+    let steps = minus(n, 1);
     let mut right = 0;
-    let mut rank = 1;
-    while rank < n {
+    for rank in 1..n {
         right += one_if(right_step(rt, position_at(line, rank - 1), position_at(line, rank))?);
-        rank += 1;
     }
     Ok(Count {
-        cases: rank - 1,
+        cases: steps,
         right,
-        calls: rank - 1,
+        calls: steps,
     })
 }

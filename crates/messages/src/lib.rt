@@ -6,7 +6,7 @@ ghost use Rattle.model.specs.Soft.{Soft, certain, box};
 ghost use Rattle.model.specs.Kinds.{least_size, others, type_iv, shortcut, rate_0, rate_1, REP, SPC, type_I, type_III, type_II, type_IV};
 ghost use Rattle.model.specs.Plans.{is_rate01};
 ghost use Rattle.words.specs.Words.{soft, stored, word, write, Incoming};
-ghost use Rattle.kinds.specs.Runs.{kind_named};
+ghost use Rattle.kinds.specs.Runs.{kind_found};
 ghost use Rattle.classes.specs.Sums.{Period};
 ghost use Rattle.messages.specs.Cut.{cut_words, sum_by, box_by, message_words, Sized, least_of};
 
@@ -179,21 +179,21 @@ pub fn type_four_message(w: &mut [i32], m: usize, x: usize, s: usize)
 }
 
 // The message of a cut node, by its kind. A rate-0 or rate-1 node does not look at what it is handed.
-pub fn cut_message(w: &mut [i32], k: Kind, m: usize, x: usize, s: usize)
+pub fn cut_message(w: &mut [i32], kind: Option<Kind>, m: usize, x: usize, s: usize)
     requires s_bound { (m + s ≤ x) × (x + s ≤ length w.old) }
-    requires sized { Sized (least_of (kind_named k)) s }
-    requires incoming { is_rate01 (kind_named k) ≡ false → Incoming w.old x s }
-    ensures { w.new ≡ cut_words (kind_named k) w.old m x s }
+    requires sized { Sized (least_of (kind_found kind)) s }
+    requires incoming { is_rate01 (kind_found kind) ≡ false → Incoming w.old x s }
+    ensures { w.new ≡ cut_words (kind_found kind) w.old m x s }
 {
-    match k {
-        Kind::Rate0 => rate_zero_message(w, m, s),
-        Kind::Rate1 => rate_one_message(w, m, s),
-        Kind::Spc => spc_message(w, m, x, s),
-        Kind::Rep => rep_message(w, m, x, s),
-        Kind::TypeIII => type_three_message(w, m, x, s),
-        Kind::TypeI => type_one_message(w, m, x, s),
-        Kind::TypeII => type_two_message(w, m, x, s),
-        Kind::TypeIV => type_four_message(w, m, x, s),
-        Kind::NoKind => {}
+    match kind {
+        Some(Kind::Rate0) => rate_zero_message(w, m, s),
+        Some(Kind::Rate1) => rate_one_message(w, m, s),
+        Some(Kind::Spc) => spc_message(w, m, x, s),
+        Some(Kind::Rep) => rep_message(w, m, x, s),
+        Some(Kind::TypeIII) => type_three_message(w, m, x, s),
+        Some(Kind::TypeI) => type_one_message(w, m, x, s),
+        Some(Kind::TypeII) => type_two_message(w, m, x, s),
+        Some(Kind::TypeIV) => type_four_message(w, m, x, s),
+        None => {}
     }
 }

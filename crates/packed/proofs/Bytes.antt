@@ -1,12 +1,14 @@
 -- Bytes of words, and the word of bytes. Assumes nothing.
 use mathlib.Core.Path.{◌≡◌, sym, ◌∙◌, ap, ap₂}
 use mathlib.Core.List.{List, [], ◌∷◌}
-use Prim.Native.Nat.{ℕ, zero, suc, ◌+◌, ◌*◌, ◌/◌, ◌%◌, ◌^◌, ◌≤◌, ◌<◌}
-use native.Mathlib.Nat.{add_comm, add-zero, add-mul, mul_assoc, mul_comm, mul-le-mul_right, mod-lt, zero-div, div-one}
-use native.Mathlib.Numerals.{add-one}
+use Prim.Native.Nat.{ℕ, suc, ◌+◌, ◌*◌, ◌/◌, ◌%◌, ◌^◌, ◌≤◌, ◌<◌}
+use native.Mathlib.Nat.{add-zero, mod-lt, div-one}
 use native.Mathlib.Omega.{arith}
-use lib.Bits.{bit_xor, bit_and, bit_or, xor_shr, xor_mod, and_shr, and_mod, or_shifted_r}
-use lib.Pow.{pow_pos, pow-add, shr-shr, high, low}
+use Rattle.std.specs.Int.{w64, to_le_bytes, from_le_bytes}
+use Rattle.std.proofs.lemmas.Nat.{le_bytes_8}
+use Rattle.std.proofs.lemmas.Grind.{common_steps}
+use lib.Bits.{bit_xor, bit_and, xor_shr, xor_mod, and_shr, and_mod}
+use lib.Pow.{pow_pos, shr-shr}
 use lib.ListN.{length, get_or, take, drop, length-drop}
 use lib.Seq.{ext_get_or, get_or-take, get_or-drop, length-take-le}
 use Rattle.model.specs.Lists.{tabulate}
@@ -43,45 +45,10 @@ pub length-bytes : (w : ℕ) → length (bytes_of w) ≡ 8
 unfolding bytes_of
 length-bytes w = length_tabulate 8 (byte_at w)
 
--- ---- the word of bytes
-abbrev pub Small : List ℕ → Type 0
-Small [] = Unit
-Small (b ∷ l) = (b < 256) × Small l
-
-unfoldable word_of : List ℕ → ℕ
-word_of [] = 0
-word_of (b ∷ l) = word_of l * 2 ^ 8 + b
-
-byte_word : (l : List ℕ) → Small l → (k : ℕ) → byte_at (word_of l) k ≡ get_or l k 0
-unfolding word_of byte_at
-byte_word [] s k = ap (λ (x : ℕ). x % 2 ^ 8) (zero-div (2 ^ (k * 8)))
-byte_word (b ∷ l) s zero = ap (λ (x : ℕ). x % 2 ^ 8) (div-one (word_of l * 2 ^ 8 + b)) ∙ low (word_of l) 8 s.0
-byte_word (b ∷ l) s (suc k) =
-    ap (byte_at (word_of l * 2 ^ 8 + b)) (sym (add-one k) ∙ add_comm k 1) ∙ sym (byte-shift (word_of l * 2 ^ 8 + b) 1 k)
-    ∙ ap (λ (x : ℕ). byte_at x k) (high (word_of l) 8 s.0) ∙ byte_word l s.1 k
-
--- bytes joined by `|`, from place k on
-abbrev joined : ℕ → ℕ → List ℕ → ℕ
-joined k a [] = a
-joined k a (b ∷ l) = joined (k + 8) (bit_or a (b * 2 ^ k)) l
-
-word-joined : (l : List ℕ) (k a : ℕ) → a < 2 ^ k → Small l → joined k a l ≡ word_of l * 2 ^ k + a
-unfolding word_of
-word-joined [] k a m s = omega arith
-word-joined (b ∷ l) k a m s =
-    let small : b * 2 ^ k ≤ 255 * 2 ^ k = mul-le-mul_right (2 ^ k) (omega arith) in
-    word-joined l (k + 8) (bit_or a (b * 2 ^ k)) (rw (or_shifted_r b k a m, pow-add 2 k 8) (omega arith)) s.1
-    ∙ rw (or_shifted_r b k a m, pow-add 2 k 8) (regrouped (word_of l) (2 ^ k))
-  where
-    regrouped : (w p : ℕ) → w * (p * 2 ^ 8) + (b * p + a) ≡ (w * 2 ^ 8 + b) * p + a
-    regrouped w p = omega (arith, add-mul (w * 256) b p, mul_assoc w 256 p, ap (λ (x : ℕ). w * x) (mul_comm 256 p))
-
-pub joined_bytes : (b : ℕ) (l : List ℕ) → length l ≡ 7 → Small (b ∷ l) → bytes_of (joined 8 b l) ≡ b ∷ l
-unfolding bytes_of word_of
-joined_bytes b l e s =
-    ap (λ (x : ℕ). tabulate 8 (byte_at x)) (word-joined l 8 b s.0 s.1)
-    ∙ ext_get_or 0 (tabulate 8 (byte_at (word_of (b ∷ l)))) (b ∷ l) (length_tabulate 8 (byte_at (word_of (b ∷ l))) ∙ sym (ap suc e))
-    (λ k h. get_d_tabulate 8 (byte_at (word_of (b ∷ l))) k 0 (rw (length_tabulate 8 (byte_at (word_of (b ∷ l)))) at h) ∙ byte_word (b ∷ l) s k)
+-- ---- the library's bytes of a word
+pub low_first : (w : ℕ) → bytes_of w ≡ to_le_bytes w64 w
+unfolding bytes_of byte_at tabulate
+low_first w = ap (λ (x : ℕ). x % 256 ∷ drop 1 (to_le_bytes w64 w)) (div-one w)
 
 -- the eight bytes at a place
 part_at : (l : List ℕ) (i : ℕ) → i + 8 ≤ length l → tabulate 8 (λ k. get_or l (i + k) 0) ≡ take 8 (drop i l)
@@ -90,8 +57,13 @@ part_at l i h =
     ext_get_or 0 (tabulate 8 (λ k. get_or l (i + k) 0)) (take 8 (drop i l)) (length_tabulate 8 (λ k. get_or l (i + k) 0) ∙ sym t)
     (λ k m. let m' = rw (length_tabulate 8 (λ k. get_or l (i + k) 0)) at m in get_d_tabulate 8 (λ k. get_or l (i + k) 0) k 0 m' ∙ sym (get_or-take 8 (drop i l) k 0 m' ∙ get_or-drop i l k 0))
 
-pub loaded : (l : List ℕ) (i r : ℕ) → i + 8 ≤ length l
-    → bytes_of r ≡ get_or l i 0 ∷ get_or l (i + 1) 0 ∷ get_or l (i + 2) 0 ∷ get_or l (i + 3) 0 ∷ get_or l (i + 4) 0 ∷ get_or l (i + 5) 0 ∷ get_or l (i + 6) 0 ∷ get_or l (i + 7) 0 ∷ []
+-- the word that the library reads there
+pub loaded : (l : List ℕ) (i r : ℕ) → i + 8 ≤ length l → ((k : ℕ) → get_or l k 0 < 256)
+    → r ≡ from_le_bytes w64 (get_or l i 0 ∷ get_or l (i + 1) 0 ∷ get_or l (i + 2) 0 ∷ get_or l (i + 3) 0 ∷ get_or l (i + 4) 0 ∷ get_or l (i + 5) 0 ∷ get_or l (i + 6) 0 ∷ get_or l (i + 7) 0 ∷ [])
     → bytes_of r ≡ take 8 (drop i l)
 unfolding tabulate
-loaded l i r h e = e ∙ ap (λ (j : ℕ). get_or l j 0 ∷ tabulate 7 (λ k. get_or l (i + suc k) 0)) (sym (add-zero i)) ∙ part_at l i h
+loaded l i r h small e =
+    let p = ap (λ (j : ℕ). get_or l j 0 ∷ tabulate 7 (λ k. get_or l (i + suc k) 0)) (sym (add-zero i)) ∙ part_at l i h in
+    low_first r ∙ le_bytes_8 (take 8 (drop i l)) r (length-take-le 8 (drop i l) (omega (arith, length-drop i l)))
+    (λ k. grind (arith, common_steps, small (i + k)))
+    (e ∙ ap (from_le_bytes w64) p)

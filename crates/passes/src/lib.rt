@@ -30,10 +30,8 @@ fn decide_leaves(bits: &mut [u8], values: &[i32])
     requires { length bits.old ≤ length values.now }
     ensures { bits.new ≡ leaf_bits bits.old (soft values.now 0 (length bits.old)) }
 {
-    let mut i = 0;
-    while i < bits.len() {
-        bits[i] = leaf_bit(bits[i], values[i]);
-        i += 1;
+    for (i, bit) in bits.iter_mut().enumerate() {
+        *bit = leaf_bit(*bit, values[i]);
     }
 }
 
@@ -59,18 +57,6 @@ fn pass(
     decide_leaves(bits, work);
 }
 
-// The mask, to `to`.
-fn copy_mask(mask: &[u8], to: &mut [u8])
-    requires { length to.old ≡ length mask.now }
-    ensures { to.new ≡ mask.now }
-{
-    let mut i = 0;
-    while i < mask.len() {
-        to[i] = mask[i];
-        i += 1;
-    }
-}
-
 // Pass one, with the mask itself. `bits` has its leaf bits afterwards.
 pub fn first_pass(
     mask: &[u8],
@@ -88,7 +74,7 @@ pub fn first_pass(
     ensures bits_after { bits.new ≡ pass_bits stage mask.now (map finite llrs.now) sweeps }
     ensures passed { Passed mask.now llrs.now sweeps size stage work.old work.new }
 {
-    copy_mask(mask, bits);
+    bits.copy_from_slice(mask);
     pass(llrs, ones, sweeps, size, stage, known, bits, work);
 }
 
@@ -108,10 +94,8 @@ fn attempt_mask(mask: &[u8], bits: &[u8], flipped: usize, trial: &mut [u8])
     requires { (length bits.now ≡ length mask.now) × (length trial.old ≡ length mask.now) × T (at_most 1 bits.now) }
     ensures { trial.new ≡ attempt_mask mask.now bits.now flipped }
 {
-    let mut i = 0;
-    while i < mask.len() {
+    for i in 0..mask.len() {
         trial[i] = attempt_byte(i, flipped, mask[i], bits[i]);
-        i += 1;
     }
 }
 

@@ -9,7 +9,7 @@ use borrow.Author.Tests.{eqb-true, eqb-false}
 use native.Mathlib.Decide.{dec_le}
 use lib.Dec.{T, eqb}
 use lib.ListN.{length, take, drop, get_or, replicate, length-set}
-use lib.Pow.{pow_pos, pow_mono}
+use lib.Pow.{pow_pos}
 use lib.Seq.{get_or-set_same, get_or-set_other, set_out, take_all}
 use Rattle.model.specs.Lists.{bit, tabulate}
 use Rattle.model.specs.Kinds.{Kind, order, row, is_some, is_kind, kind_of}
@@ -19,7 +19,7 @@ use Rattle.model.proofs.CountedCycles.{none_of}
 use Rattle.model.proofs.Planner.{Chosen, planner_chosen}
 use Rattle.kinds.specs.Runs.{row_of}
 use Rattle.model.proofs.Orders.{has-order}
-use Rattle.planner.specs.Writing.{noted, counted, Free}
+use Rattle.planner.specs.Writing.{noted, counted}
 use Rattle.planner.proofs.Written.{zeros-at, take_tabulate}
 
 -- ---- one more of a kind
@@ -111,7 +111,3 @@ counts-planned n mask =
     by_kind (counted n mask zeros) (counted-length n mask zeros)
     ∙ map_same (λ k. get_or (counted n mask zeros) (row k) 0) (λ k. cuts_of k (planner_plan n mask) n 1 mask)
     (λ k. omega (arith, counted_of k (planner_plan n mask) n 1 mask zeros refl (planner_chosen n mask), zeros-at (length order) (row k))) order
-
--- ---- room in the counts
-pub free-zeros : (n : ℕ) → n ≤ 10 → Free n (replicate (length order) 0)
-free-zeros n h = let q : 2 ^ n ≤ 1024 = pow_mono h in record { free = λ i. omega (arith, zeros-at (length order) i) }

@@ -1,18 +1,16 @@
 -- What the planner's recursion does at a node, in the terms of the code. Assumes nothing.
-use Prim.Native.Nat.{ℕ, zero, suc, ◌+◌, ◌*◌, ◌-◌, ◌/◌, ◌^◌, ◌<◌, ◌≤◌}
+use Prim.Native.Nat.{ℕ, zero, suc, ◌+◌, ◌*◌, ◌-◌, ◌/◌, ◌^◌}
 use native.Mathlib.Omega.{arith}
 use mathlib.Core.Path.{◌≡◌, sym, ap, ◌∙◌}
 use mathlib.Core.Bool.{Bool, true, false}
 use mathlib.Core.List.{List}
-use borrow.Author.Tests.{lt-ltb, le-ltb}
 use lib.ListN.{length, take, drop, set}
 use lib.Pow.{pow_pos}
-use Rattle.model.specs.Kinds.{order, kind_of, is_some}
+use Rattle.model.specs.Kinds.{kind_of, is_some}
 use Rattle.model.proofs.Lists.{take_left, absurd_bool}
 use Rattle.model.proofs.Planner.{leaf-some}
 use Rattle.plans.specs.Nodes.{Node}
 use Rattle.kinds.specs.Runs.{row_of}
-use Rattle.kinds.proofs.Table.{is_row}
 use Rattle.planner.specs.Writing.{noted, marked, tallied, written, counted, Free}
 use Rattle.plans.proofs.Parts.{half, twice, at_suc}
 use Rattle.planner.proofs.Counted.{counted-le}
@@ -36,17 +34,6 @@ module _ (p : ℕ) (mask plan cs : List ℕ) where
 -- ---- a node is tested: `cut`, out and sums are what was found and stored
 abbrev pub Tested : ℕ → List ℕ → List ℕ → List ℕ → Bool → List ℕ → List ℕ → Type 0
 Tested p mask plan cs cut out sums = (cut ≡ is_some (kind_of (length mask) mask)) × ((out ≡ marked p mask plan) × (sums ≡ tallied mask cs))
-
-module _ {i : ℕ} (p : ℕ) (mask plan cs : List ℕ) (r : i ≡ row_of (kind_of (length mask) mask)) where
-  pub row-found : i < length order → Tested p mask plan cs true (set plan p 1) (noted i cs)
-  row-found lt =
-      let e : is_some (kind_of (length mask) mask) ≡ true = sym (is_row (kind_of (length mask) mask)) ∙ lt-ltb (row_of (kind_of (length mask) mask)) (length order) (omega (arith, r)) in
-      (sym e, (rw e, ap (λ (j : ℕ). noted j cs) r ∙ rw e))
-
-  pub row_missed : length order ≤ i → Tested p mask plan cs false plan cs
-  row_missed le =
-      let e : is_some (kind_of (length mask) mask) ≡ false = sym (is_row (kind_of (length mask) mask)) ∙ le-ltb (row_of (kind_of (length mask) mask)) (length order) (omega (arith, r)) in
-      (sym e, (rw e, rw e))
 
 -- what that and, where the node is of no kind, the nodes below it leave
 module _ (p : ℕ) (mask plan cs : List ℕ) {cut : Bool} {x a : List ℕ} (tested : Tested p mask plan cs cut x a) where

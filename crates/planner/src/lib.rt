@@ -2,26 +2,15 @@
 // The recursion goes down the tree with a node's stage t, its number p, and its part of the mask: 2p and 2p + 1 are its children.
 #![tactic(auto)]
 
-ghost use Rattle.std.specs.Prelude.{◌≡◌, ◌++◌, false, ℕ, ◌<◌, ◌≤◌, length, get_or, drop, replicate};
+ghost use Rattle.std.specs.Prelude.{◌≡◌, ◌++◌, false, ℕ, ◌<◌, ◌≤◌, length, get_or, drop, replicate, IfOk};
 ghost use Rattle.model.specs.Kinds.{kind_of, is_some};
 ghost use Rattle.model.specs.Refusals.{plan_number, plan_bytes, plan_counts, plan_cycles};
+ghost use Rattle.inputs.specs.Numbers.{number_of, of_accepted};
 ghost use Rattle.plans.specs.Nodes.{Node};
 ghost use Rattle.planner.specs.Writing.{marked, tallied, written, counted, cycles_from, Free};
 
-use inputs::mask_tests;
+use inputs::{Refusal, mask_tests};
 use kinds::{KINDS, kind_of, table_row};
-
-// Sets the first bytes to 0, as many as `count` says.
-fn zero_front(plan: &mut [u8], count: usize)
-    requires { count ≤ length plan.old }
-    ensures { plan.new ≡ replicate count 0 ++ drop count plan.old }
-{
-    let mut i = 0;
-    while i < count {
-        plan[i] = 0;
-        i += 1;
-    }
-}
 
 // Cuts node p if it is of a kind, and counts it by its kind. Whether it is of a kind.
 fn cut_here(mask: &[u8], plan: &mut [u8], counts: &mut [u32; KINDS], p: usize) -> bool
@@ -30,15 +19,13 @@ fn cut_here(mask: &[u8], plan: &mut [u8], counts: &mut [u32; KINDS], p: usize) -
     ensures plan_after { plan.new ≡ marked p mask.now plan.old }
     ensures counts_after { counts.new ≡ tallied mask.now counts.old }
 {
-    let row = table_row(kind_of(mask));
-    let i = row.place;
-    if i < KINDS {
-        plan[p] = 1;
-        counts[i] += 1;
-        true
-    } else {
-        false
-    }
+    let Some(kind) = kind_of(mask) else {
+        return false;
+    };
+    let i = table_row(Some(kind)).place;
+    plan[p] = 1;
+    counts[i] += 1;
+    true
 }
 
 // Cuts each node of a kind, below node p of stage t, which is of none, that has no such node above it, and counts it by its kind.
@@ -84,42 +71,28 @@ fn cycles_from(c: [u32; KINDS]) -> u32
     if all < 6 { 0 } else { all - 6 }
 }
 
-// What the planner answers: the number, the counts of cut nodes by kind, in the kinds' order, and the cycles of one sweep.
-#[derive(Drop)]
+// What the planner finds: the counts of cut nodes by kind, in the kinds' order, and the cycles of one sweep.
+#[derive(Clone, Copy)]
 pub struct Planned {
-    pub number: u32,
     pub counts: [u32; KINDS],
     pub cycles: u32,
 }
 
 // Writes the plan that cuts each node of a kind that has no such node above it.
-pub fn plan_mask(mask: &[u8], plan: &mut [u8]) -> Planned
-    ensures number_value { (result.number ≡ plan_number mask.now (length plan.old)) × (result.counts ≡ plan_counts mask.now (length plan.old)) × (result.cycles ≡ plan_cycles mask.now (length plan.old)) }
+pub fn plan_mask(mask: &[u8], plan: &mut [u8]) -> Result<Planned, Refusal>
+    ensures number { number_of result ≡ plan_number mask.now (length plan.old) }
+    ensures counts { IfOk result (λ p. p.counts ≡ plan_counts mask.now (length plan.old)) }
+    ensures cycles { of_accepted (λ p. p.cycles) result ≡ plan_cycles mask.now (length plan.old) }
     ensures plan_after { plan.new ≡ plan_bytes mask.now plan.old }
 {
-    let mut counts = [0u32; KINDS];
-    let masked = mask_tests(mask);
-    if masked.number != 0 {
-        return Planned {
-            number: masked.number,
-            counts,
-            cycles: 0,
-        };
-    }
+    let masked = mask_tests(mask)?;
     let size = 2 * mask.len();
     if plan.len() < size {
-        return Planned {
-            number: 11,
-            counts,
-            cycles: 0,
-        };
+        return Err(Refusal::ShortOutput);
     }
-    zero_front(plan, size);
+    plan[..size].fill(0);
+    let mut counts = [0u32; KINDS];
     write_plan(mask, plan, &mut counts, masked.stage, 1);
     let cycles = cycles_from(counts);
-    Planned {
-        number: 0,
-        counts,
-        cycles,
-    }
+    Ok(Planned { counts, cycles })
 }

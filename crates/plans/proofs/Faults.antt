@@ -14,8 +14,12 @@ use Rattle.model.specs.Refusals.{Test, refusal, exponent, row_5, row_6, check_nu
 use Rattle.model.proofs.Lists.{T_true, true-T, and_l, and_r}
 use Rattle.model.proofs.Paths.{well_cut-test}
 use Rattle.model.proofs.CountedCycles.{cycles-cost}
+use Rattle.std.specs.declared.result.Result.TheVariants.{Ok, Err}
+use Rattle.inputs.specs.declared.Refusal.{Refusal}
+use Rattle.inputs.specs.declared.Masked.{Masked}
+use Rattle.inputs.specs.Numbers.{refusal_number}
 use Rattle.inputs.specs.Tests.{MaskTests}
-use Rattle.inputs.proofs.Rows.{mask-refused, mask-accepted}
+use Rattle.inputs.proofs.Rows.{refusal_not_zero, mask-refused, mask-accepted}
 use Rattle.plans.specs.Nodes.{Span, shares, byte_sum}
 use Rattle.plans.specs.Faults.{fault_number, fault_cycles}
 use Rattle.plans.proofs.Parts.{root}
@@ -118,16 +122,16 @@ module _ (n : ℕ) (mask plan : List ℕ) where
       go false b = refl
 
 -- ---- the check's answers: rows 5 and 6 follow rows 1 and 2
-module _ {mask : List ℕ} {number stage : ℕ} {ones : Bool} (plan : List ℕ) (m : MaskTests mask number stage ones) where
-  pub check-refused : (number ≡ 0 → ⊥) → (number ≡ check_number mask plan) × (0 ≡ check_cycles mask plan)
-  unfolding check_number check_cycles
-  check-refused h =
-      let is : check_number mask plan ≡ number = mask-refused m (row_5 (exponent (length mask)) plan ∷ row_6 (exponent (length mask)) plan mask ∷ []) h in
-      (sym is, rw (is, ne_eqb number 0 h))
+pub check-refused : {mask : List ℕ} {r : Refusal} (plan : List ℕ) → MaskTests mask (Err r) → (refusal_number r ≡ check_number mask plan) × (0 ≡ check_cycles mask plan)
+unfolding check_number check_cycles
+check-refused {mask} {r} plan m =
+    let is : check_number mask plan ≡ refusal_number r = mask-refused r m (row_5 (exponent (length mask)) plan ∷ row_6 (exponent (length mask)) plan mask ∷ []) in
+    (sym is, rw (is, ne_eqb (refusal_number r) 0 (refusal_not_zero r)))
 
-  pub check-fault : {f c : ℕ} → number ≡ 0 → f ≡ fault_number stage mask plan → c ≡ fault_cycles stage mask plan → (f ≡ check_number mask plan) × (c ≡ check_cycles mask plan)
-  unfolding check_number check_cycles fault_number fault_cycles
-  check-fault h p q =
-      let is : check_number mask plan ≡ fault_number (exponent (length mask)) mask plan = mask-accepted m (row_5 (exponent (length mask)) plan ∷ row_6 (exponent (length mask)) plan mask ∷ []) h in
-      let e : stage ≡ exponent (length mask) = (m.passed h).stage_is in
-      (p ∙ sym (rw e is), q ∙ rw (is, e))
+pub check-fault : {mask : List ℕ} {x : Masked} (plan : List ℕ) → MaskTests mask (Ok x)
+    → (fault_number x.stage mask plan ≡ check_number mask plan) × (fault_cycles x.stage mask plan ≡ check_cycles mask plan)
+unfolding check_number check_cycles fault_number fault_cycles
+check-fault {mask} {x} plan m =
+    let is : check_number mask plan ≡ fault_number (exponent (length mask)) mask plan = mask-accepted m (row_5 (exponent (length mask)) plan ∷ row_6 (exponent (length mask)) plan mask ∷ []) in
+    let e : x.stage ≡ exponent (length mask) = m.passed.0.stage_is in
+    (sym (rw e is), sym (rw (is, e)))

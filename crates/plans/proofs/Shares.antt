@@ -36,7 +36,7 @@ cycles-small plan (suc t) p mask =
 pub cost-small : (plan : List ℕ) (t p : ℕ) (mask : List ℕ) → cost plan t p mask + 4 ≤ 8 * 2 ^ t
 cost-small plan t p mask = omega (arith, cycles-small plan t p mask, edge_small plan (2 ^ t) p mask)
 
-pub own-small : (o : Option Kind) → cut_cycles o ≤ 4
+own-small : (o : Option Kind) → cut_cycles o ≤ 4
 own-small none = omega arith
 own-small (some rate_0) = omega arith
 own-small (some rate_1) = omega arith
@@ -47,7 +47,7 @@ own-small (some type_III) = omega arith
 own-small (some type_II) = omega arith
 own-small (some type_IV) = omega arith
 
-pub edge_share_small : (b : Bool) → cond b 4 6 ≤ 6
+edge_share_small : (b : Bool) → cond b 4 6 ≤ 6
 edge_share_small b = cond_both (λ n. n ≤ 6) b (omega arith) (omega arith)
 
 share-small : (o : Option Kind) → share o ≤ fault

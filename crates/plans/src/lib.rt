@@ -5,12 +5,13 @@
 ghost use Rattle.std.specs.Prelude.{◌≡◌, cond, ◌&&◌, ◌-◌, ◌%◌, ◌≤◌, ◌<◌, ◌^◌, T, eqb, length, get_or};
 ghost use Rattle.model.specs.Lists.{at_most, part};
 ghost use Rattle.model.specs.Refusals.{check_number, check_cycles};
-ghost use Rattle.kinds.specs.Runs.{kind_named};
+ghost use Rattle.inputs.specs.Numbers.{number_of, of_accepted};
+ghost use Rattle.kinds.specs.Runs.{kind_found};
 ghost use Rattle.plans.specs.Nodes.{Span, byte_sum, fault, share, shares};
 ghost use Rattle.plans.specs.Faults.{fault_number, fault_cycles};
 
-use inputs::{at_most, mask_tests};
-use kinds::{KINDS, Kind, kind_of, table_row};
+use inputs::{Refusal, at_most, mask_tests};
+use kinds::{Kind, kind_of, table_row};
 
 // What a leaf whose path has no cut, or a cut node of no kind, adds to the check's sum: more than all cuts of a plan.
 const FAULT: u64 = 4294967296;
@@ -26,16 +27,15 @@ fn edge_share(fixed: bool) -> u64
     if fixed { 4 } else { 6 }
 }
 
-// What a cut node of kind k adds.
-fn share_of(k: Kind) -> u64
-    ensures { result ≡ share (kind_named k) }
+// What a cut node adds, of a kind or of none.
+fn share_of(kind: Option<Kind>) -> u64
+    ensures { result ≡ share (kind_found kind) }
 {
-    let row = table_row(k);
-    if row.place < KINDS {
-        CUT + (row.cycles as u64 + edge_share(row.fixed))
-    } else {
-        FAULT
+    if kind.is_none() {
+        return FAULT;
     }
+    let row = table_row(kind);
+    CUT + (row.cycles as u64 + edge_share(row.fixed))
 }
 
 // What a leaf adds, by its byte of the plan: each is a rate-0 or a rate-1 node.
@@ -83,14 +83,7 @@ fn is_plan(plan: &[u8], size: usize) -> bool
     requires { 0 < size }
     ensures { result ≡ (eqb (length plan.now) size && (at_most 1 plan.now && eqb (get_or plan.now 0 0) 0)) }
 {
-    if plan.len() != size {
-        return false;
-    }
-    if at_most(plan, 1) {
-        plan[0] == 0
-    } else {
-        false
-    }
+    plan.len() == size && at_most(plan, 1) && plan[0] == 0
 }
 
 // The number of cut nodes of a plan: its bytes added up. They are summed in 16 bits, which compiles to eight sums at a time.
@@ -99,58 +92,36 @@ fn cuts_in(plan: &[u8]) -> u32
     ensures { result ≡ byte_sum plan.now }
 {
     let mut cuts: u16 = 0;
-    let mut p = 0;
-    while p < plan.len() {
-        cuts += plan[p] as u16;
-        p += 1;
+    for byte in plan {
+        cuts += *byte as u16;
     }
     cuts as u32
 }
 
-// What a check of a plan answers: the number, and the cycles of one sweep if it is 0.
-#[derive(Drop)]
-pub struct Checked {
-    pub number: u32,
-    pub cycles: u32,
-}
-
 // Tests 5 and 6 of a plan, for a mask of 2 ^ t bytes. The decoder shares them.
 // Where a path has a second cut, the plan has more cuts than the pass from the root down counts; where one has none, or a cut node is of no kind, it has fewer.
-pub fn fault_of(mask: &[u8], plan: &[u8], t: usize) -> Checked
+pub fn fault_of(mask: &[u8], plan: &[u8], t: usize) -> Result<u32, Refusal>
     requires { (length mask.now ≡ 2 ^ t) × (t ≤ 10) }
-    ensures { (result.number ≡ fault_number t mask.now plan.now) × (result.cycles ≡ fault_cycles t mask.now plan.now) }
+    ensures number { number_of result ≡ fault_number t mask.now plan.now }
+    ensures cycles { of_accepted (λ c. c) result ≡ fault_cycles t mask.now plan.now }
 {
     if !is_plan(plan, 2 * mask.len()) {
-        return Checked {
-            number: 5,
-            cycles: 0,
-        };
+        return Err(Refusal::PlanBytes);
     }
     let sum = shares_at(mask, plan, t, 1, 0, mask.len());
     let cuts = cuts_in(plan);
     if sum / CUT == cuts as u64 {
-        Checked {
-            number: 0,
-            cycles: cycles_in(sum),
-        }
+        Ok(cycles_in(sum))
     } else {
-        Checked {
-            number: 6,
-            cycles: 0,
-        }
+        Err(Refusal::PlanCuts)
     }
 }
 
-// Checks a plan for a mask.
-pub fn check_plan(mask: &[u8], plan: &[u8]) -> Checked
-    ensures { (result.number ≡ check_number mask.now plan.now) × (result.cycles ≡ check_cycles mask.now plan.now) }
+// Checks a plan for a mask, and answers the cycles of one sweep along it.
+pub fn check_plan(mask: &[u8], plan: &[u8]) -> Result<u32, Refusal>
+    ensures number { number_of result ≡ check_number mask.now plan.now }
+    ensures cycles { of_accepted (λ c. c) result ≡ check_cycles mask.now plan.now }
 {
-    let masked = mask_tests(mask);
-    if masked.number != 0 {
-        return Checked {
-            number: masked.number,
-            cycles: 0,
-        };
-    }
+    let masked = mask_tests(mask)?;
     fault_of(mask, plan, masked.stage)
 }

@@ -27,14 +27,15 @@ fn read_input<R: Read>(input: &mut R, buf: &mut [u8]) -> io::Result<usize>
     ensures prefix_len { IfOk result (λ n. IsPrefixLen n buf.new) }
     ensures err { OnErr result (length buf.new ≡ length buf.old) }
 {
-    let mut n: usize = 0;
+    let mut n = 0;
+    // A read gives as many bytes as have come, so this counts bytes and not reads.
     while n < buf.len() {
         let more = read_more(input, buf, n)?;
         if more == 0 {
             return Ok(n);
         }
         let e = n + more;
-        if fields::find(&buf[..e], n, b'\n') < e {
+        if buf[n..e].contains(&b'\n') {
             return Ok(e);
         }
         n = e;

@@ -7,83 +7,107 @@ use native.Mathlib.Nat.{add-zero}
 use native.Mathlib.Numerals.{add-one}
 use native.Mathlib.Omega.{arith}
 use lib.IntN.{ℤ}
-use lib.ListN.{length, set}
-use lib.Seq.{sets}
-use Rattle.model.specs.Refusals.{llrs_in_range}
+use lib.ListN.{length, set, get_or, drop, drop_of_length-le}
+use lib.Seq.{sets, drop-cons}
+use lib.Dec.{eqb}
+use Rattle.std.specs.Prelude.{Option}
+use Rattle.std.specs.List.{slice_split}
+use Rattle.std.proofs.lemmas.List.{get_or_default}
+use Rattle.std.specs.declared.option.Option.TheVariants.{Some, None}
+use Rattle.model.specs.Refusals.{is_llr, llrs_in_range}
 use Rattle.model.proofs.Lists.{and_assoc, and-true}
-use Rattle.fields.specs.Grammar.{is_number, value, all_numbers}
-use Rattle.fields.specs.Steps.{field_at, next_at, rest}
-use Rattle.fields.proofs.Split.{and_both, rest-split, rest-none, next-most}
+use Rattle.fields.specs.Grammar.{fields, is_number, value, all_numbers}
+use Rattle.fields.specs.Steps.{read_number}
+use Rattle.fields.proofs.Split.{and_both, fields_are}
 use Rattle.reader.specs.declared.Llrs.{Llrs}
-use Rattle.reader.specs.declared.Llrs.TheVariants.{Numbers, Broken}
-use Rattle.model.specs.Refusals.{is_llr}
 use Rattle.reader.specs.Steps.{llrs_read, ReadLlrs}
 
 -- the answer after k LLRs, all within ±32767 or not, with the fields fs to come
-unfoldable pub llrs_from : ℕ → Bool → List (List ℕ) → Llrs
-llrs_from k ok fs = cond (all_numbers fs) (Numbers (k + length fs) (ok && llrs_in_range (map value fs))) Broken
+unfoldable pub llrs_from : ℕ → Bool → List (List ℕ) → Option Llrs
+llrs_from k ok fs = cond (all_numbers fs) (Some (record { count = k + length fs; in_range = ok && llrs_in_range (map value fs) })) None
 
--- k are read, and those from position i on are to come
-pub record Going (s : List ℕ) (from : ℕ) (l₀ l : List ℤ) (k : ℕ) (ok : Bool) (i : ℕ) : Type 0 where
-  pub low : k ≤ i
-  pub within : i ≤ length s + 1
-  pub kept : length l ≡ length l₀
-  pub answer : llrs_from k ok (rest s i) ≡ llrs_read (rest s from)
-  pub stored : ok ≡ true → sets l k (map value (rest s i)) ≡ sets l₀ 0 (map value (rest s from))
+-- whether the LLRs of an answer are in range
+abbrev within : Option Llrs → Bool
+within None = true
+within (Some x) = x.in_range
 
-pub going_start : (s : List ℕ) (from : ℕ) (l : List ℤ) → from ≤ length s + 1 → Going s from l l 0 true from
+-- k of the fields are read
+pub record Going (fs : List (List ℕ)) (before now : List ℤ) (k : ℕ) (ok : Bool) : Type 0 where
+  pub kept : length now ≡ length before
+  pub answer : llrs_from k ok (drop k fs) ≡ llrs_read fs
+  pub stored : ok ≡ true → sets now k (map value (drop k fs)) ≡ sets before 0 (map value fs)
+
+pub going_start : (fs : List (List ℕ)) (l : List ℤ) → Going fs l l 0 true
 unfolding llrs_from llrs_read
-going_start s from l h =
-    let e : 0 + length (rest s from) ≡ length (rest s from) = omega arith in
-    record { low = omega arith; within = h; kept = refl; answer = rw e; stored = λ t. refl }
+going_start fs l = let e : 0 + length fs ≡ length fs = omega arith in record { kept = refl; answer = rw e; stored = λ t. refl }
 
-module _ {s : List ℕ} {from : ℕ} {l₀ l : List ℤ} {k : ℕ} {ok : Bool} {i : ℕ} (g : Going s from l₀ l k ok i) where
-  -- the field at i is a number, z
-  module _ (h : i ≤ length s) (n : is_number (field_at s i) ≡ true) (z : ℤ) (v : z ≡ value (field_at s i)) (ok' : Bool) (b : ok' ≡ (ok && is_llr z))
-      (l' : List ℤ) (m : length l' ≡ length l) (w : is_llr z ≡ true → l' ≡ set l k z) where
-    answer_on : llrs_from (k + 1) ok' (rest s (next_at s i)) ≡ llrs_from k ok (rest s i)
+-- what a field says, by what was read of it
+module _ (s : List ℕ) where
+  pub says-value : (z : ℤ) → Some z ≡ read_number s → (is_number s ≡ true) × (z ≡ value s)
+  unfolding read_number
+  says-value z = go (is_number s)
+    where
+      go : (t : Bool) → Some z ≡ cond t (Some (value s)) None → (t ≡ true) × (z ≡ value s)
+      go true p = (refl, cc)
+      go false p = let w : ⊥ = cc in absurd w
+
+  pub says_none : None ≡ read_number s → is_number s ≡ false
+  unfolding read_number
+  says_none = go (is_number s)
+    where
+      go : (t : Bool) → None ≡ cond t (Some (value s)) None → t ≡ false
+      go true p = let w : ⊥ = cc in absurd w
+      go false p = refl
+
+-- a field behind the first two, as std's `split` yields it
+pub field-here : (line : List ℕ) (k : ℕ) (x : List ℕ) {i : ℕ} → let fs = drop 2 (slice_split (λ b. eqb b 32) line) in
+    (i < length fs) × (x ≡ get_or fs i x) → k ≡ i → (k < length (drop 2 (fields line))) × (x ≡ get_or (drop 2 (fields line)) k [])
+field-here line k x t e =
+    let p = rw fields_are at t in
+    let h : k < length (drop 2 (fields line)) = omega (arith, p.0) in
+    (h, p.1 ∙ rw (← e) (get_or_default (drop 2 (fields line)) k x [] h))
+
+module _ {fs : List (List ℕ)} {before now : List ℤ} {k : ℕ} {ok : Bool} (g : Going fs before now k ok) where
+  -- the next field is a number, z
+  module _ (h : k < length fs) (z : ℤ) (v : Some z ≡ read_number (get_or fs k [])) (ok' : Bool) (b : ok' ≡ (ok && is_llr z))
+      (after : List ℤ) (m : length after ≡ length now) (w : is_llr z ≡ true → after ≡ set now k z) where
+    says : (is_number (get_or fs k []) ≡ true) × (z ≡ value (get_or fs k []))
+    says = says-value (get_or fs k []) z v
+
+    answer_on : llrs_from (k + 1) ok' (drop (k + 1) fs) ≡ llrs_from k ok (drop k fs)
     unfolding llrs_from all_numbers llrs_in_range
     answer_on =
-        let m : k + 1 + length (rest s (next_at s i)) ≡ k + suc (length (rest s (next_at s i))) = omega arith in
-        rw (rest-split s i h, n, m, b, v, and_assoc ok (is_llr (value (field_at s i))) (llrs_in_range (map value (rest s (next_at s i)))))
+        let n : suc k + length (drop (suc k) fs) ≡ k + suc (length (drop (suc k) fs)) = omega arith in
+        rw (drop-cons fs k [] h, add-one k, says.0, n, b, says.1, and_assoc ok (is_llr (value (get_or fs k []))) (llrs_in_range (map value (drop (suc k) fs))))
 
-    stored_on : ok' ≡ true → sets l' (k + 1) (map value (rest s (next_at s i))) ≡ sets l₀ 0 (map value (rest s from))
+    stored_on : ok' ≡ true → sets after (k + 1) (map value (drop (k + 1) fs)) ≡ sets before 0 (map value fs)
     stored_on t =
         let both = and_both ok (is_llr z) (sym b ∙ t) in
-        rw (w both.1, v, add-one k) (ap (λ (fs : List (List ℕ)). sets l k (map value fs)) (sym (rest-split s i h)) ∙ g.stored both.0)
+        rw (w both.1, says.1, add-one k) (ap (λ (r : List (List ℕ)). sets now k (map value r)) (sym (drop-cons fs k [] h)) ∙ g.stored both.0)
 
-    pub going_on : (j : ℕ) → j ≡ next_at s i → Going s from l₀ l' (k + 1) ok' j
-    going_on j e = rw e (record {
-      low = omega (arith, g.low);
-      within = next-most s i h;
-      kept = m ∙ g.kept;
-      answer = answer_on ∙ g.answer;
-      stored = stored_on;
-    })
+    pub going_on : Going fs before after (k + 1) ok'
+    going_on = record { kept = m ∙ g.kept; answer = answer_on ∙ g.answer; stored = stored_on }
 
   -- it is none
-  pub going_bad : i ≤ length s → is_number (field_at s i) ≡ false → ReadLlrs (rest s from) l₀ l Broken
+  pub going_bad : k < length fs → None ≡ read_number (get_or fs k []) → ReadLlrs fs before now None
   unfolding llrs_from llrs_read all_numbers
-  going_bad h n =
-      let e : Broken ≡ llrs_read (rest s from) = rw (rest-split s i h, n) at g.answer in
+  going_bad h v =
+      let e : None ≡ llrs_read fs = rw (drop-cons fs k [] h, says_none (get_or fs k []) v) at g.answer in
       record {
         is = e;
-        stored = λ a r.
-            let t : llrs_read (rest s from) ≡ Numbers (length (rest s from)) (llrs_in_range (map value (rest s from))) = rw a in
-            let z : ◌≡◌ {A = ℕ} 0 1 = cc in
-            absurd (omega arith);
+        stored = λ a r. let t : llrs_read fs ≡ Some (record { count = length fs; in_range = llrs_in_range (map value fs) }) = rw a in let w : ⊥ = cc in absurd w;
       }
 
   -- none is left
-  pub going_end : length s < i → ReadLlrs (rest s from) l₀ l (Numbers k ok)
+  pub going_end : length fs ≤ k → ReadLlrs fs before now (Some (record { count = k; in_range = ok }))
   unfolding llrs_from llrs_read all_numbers llrs_in_range
   going_end h =
-      let e : rest s i ≡ [] = rest-none s i h in
-      let is : Numbers k ok ≡ llrs_read (rest s from) = rw (e, add-zero k, and-true ok) at g.answer in
+      let e : drop k fs ≡ [] = drop_of_length-le fs h in
+      let is : Some (record { count = k; in_range = ok }) ≡ llrs_read fs = rw (e, add-zero k, and-true ok) at g.answer in
       record {
         is = is;
         stored = λ a r.
-            let t : llrs_read (rest s from) ≡ Numbers (length (rest s from)) true = rw (a, r) in
-            let o : ok ≡ true = cc in
-            ap (λ (fs : List (List ℕ)). sets l k (map value fs)) (sym e) ∙ g.stored o;
+            let t : llrs_read fs ≡ Some (record { count = length fs; in_range = true }) = rw (a, r) in
+            let o : ok ≡ true = ap within (is ∙ t) in
+            ap (λ (r : List (List ℕ)). sets now k (map value r)) (sym e) ∙ g.stored o;
       }

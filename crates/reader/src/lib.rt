@@ -1,16 +1,16 @@
 // Reads the program's line: the mask's digits, the sweeps, the LLRs.
 #![tactic(auto)]
 
-ghost use Rattle.std.specs.Prelude.{◌≡◌, true, map, ◌+◌, ◌≤◌, length, set};
+ghost use Rattle.std.specs.Prelude.{◌≡◌, true, map, ◌≤◌, length, drop, set, IfOk, IfSome};
 ghost use Rattle.model.specs.Lists.{over};
-ghost use Rattle.model.specs.Refusals.{is_llr, accepted};
+ghost use Rattle.model.specs.Refusals.{is_llr};
+ghost use Rattle.inputs.specs.Numbers.{number_of, of_accepted};
 ghost use Rattle.fields.specs.Grammar.{fields, digit, read_line, read_fields};
-ghost use Rattle.fields.specs.Steps.{rest};
 ghost use Rattle.reader.specs.Answers.{count, line_number, line_size, line_sweeps, line_mask, line_llrs};
-ghost use Rattle.reader.specs.Steps.{ReadLlrs, fields_number, Answered, Fronts};
+ghost use Rattle.reader.specs.Steps.{FirstFields, ReadLlrs, fields_number, parts_of, Fronts, Answered};
 
-use fields::{Number, digit_of, digits_only, field_at, find};
-use inputs::{at_most, both, exponent_of, is_llr, sweeps_fit, tested};
+use fields::{digit_of, digits_only, read_number};
+use inputs::{Refusal, at_most, exponent_of, is_llr, sweeps_fit};
 
 // A line has at most this many bytes with its line feed.
 const MAX_LINE: usize = 16384;
@@ -30,108 +30,103 @@ fn store_llr(z: i32, llrs: &mut [i16], k: usize) -> bool
 }
 
 // The LLRs of a line: how many, and whether all are within ±32767.
-#[derive(Drop)]
-enum Llrs {
-    Numbers { count: usize, in_range: bool },
-    Broken,
+#[derive(Clone, Copy)]
+struct Llrs {
+    count: usize,
+    in_range: bool,
 }
 
-// Reads the fields from a position on as LLRs, and stores them at the front of an array as far as there is room.
-fn read_llrs(line: &[u8], from: usize, llrs: &mut [i16]) -> Llrs
-    requires { from ≤ length line.now + 1 }
-    ensures { ReadLlrs (rest line.now from) llrs.old llrs.new result }
+// Reads the fields behind the first two as LLRs, and stores them at the front of an array as far as there is room; nothing if one is no number.
+fn read_llrs(line: &[u8], llrs: &mut [i16]) -> Option<Llrs>
+    ensures { ReadLlrs (drop 2 (fields line.now)) llrs.old llrs.new result }
 {
-    let mut count: usize = 0;
+    let mut count = 0;
     let mut in_range = true;
-    let mut at = from;
-    while at <= line.len() {
-        let field = field_at(line, at);
-        let number = field.number;
-        let Number::Value(z) = number else {
-            return Llrs::Broken;
-        };
-        in_range = both(in_range, store_llr(z, llrs, count));
+    for field in line.split(|b| *b == b' ').skip(2) {
+        let z = read_number(field)?;
+        in_range &= store_llr(z, llrs, count);
         count += 1;
-        at = field.next;
     }
-    Llrs::Numbers { count, in_range }
+    Some(Llrs { count, in_range })
+}
+
+// The first two fields of a line, if it has two.
+fn first_fields(line: &[u8]) -> Option<(&[u8], &[u8])>
+    ensures { FirstFields (fields line.now) result }
+{
+    let mut fields = line.split(|b| *b == b' ');
+    Some((fields.next()?, fields.next()?))
 }
 
 // Sweeps as a count: 0 if they are negative.
 fn sweep_count(sweeps: i32) -> usize
     ensures { result ≡ count sweeps }
 {
-    if sweeps < 0 { 0 } else { sweeps as usize }
+    usize::try_from(sweeps).unwrap_or(0)
 }
 
-// The number of a line by its parts: the number of mask digits, whether they are mask bytes, the sweeps, the number of LLRs,
-// whether those are in range.
-fn fields_number(digits: usize, bytes: bool, sweeps: usize, llrs: usize, in_range: bool) -> u32
-    ensures { result ≡ fields_number digits bytes sweeps llrs in_range }
+// What a well-formed line has: how many mask digits, whether they are mask bytes, the sweeps, how many LLRs, whether those are in range.
+#[derive(Clone, Copy)]
+struct Parts {
+    digits: usize,
+    bytes: bool,
+    sweeps: usize,
+    llrs: usize,
+    in_range: bool,
+}
+
+// Reads a line without its line feed; nothing if it is malformed. The mask's digits are the line's first bytes, and LLRs that are in range go to the front of the array.
+fn read_parts(line: &[u8], llrs: &mut [i16]) -> Option<Parts>
+    ensures parts { result ≡ parts_of (read_fields (fields line.now)) }
+    ensures fronts { IfSome result (λ p. Fronts line.now llrs.old llrs.new p.digits p.in_range) }
 {
-    let t = exponent_of(digits);
-    let fourth = tested(sweeps_fit(sweeps), tested(in_range, 0, 7), 4);
-    let second = tested(bytes, tested(llrs == digits, fourth, 3), 2);
-    tested(t != 0, second, 1)
+    let (mask, sweeps) = first_fields(line)?;
+    let sweeps = read_number(sweeps)?;
+    let read = read_llrs(line, llrs)?;
+    if !digits_only(mask) {
+        return None;
+    }
+    Some(Parts {
+        digits: mask.len(),
+        bytes: at_most(mask, b'2'),
+        sweeps: sweep_count(sweeps),
+        llrs: read.count,
+        in_range: read.in_range,
+    })
 }
 
-// What a line is: its number, 0 if it is accepted, and then N and the sweeps, which are 0 in a refused line.
-#[derive(Drop)]
+// What an accepted line has: N and the sweeps.
+#[derive(Clone, Copy)]
 pub struct Line {
-    pub number: u32,
     pub size: usize,
     pub sweeps: usize,
 }
 
-fn refused(number: u32) -> Line
-    ensures { (result.number ≡ number) × (result.size ≡ 0) × (result.sweeps ≡ 0) }
+// Tests a well-formed line by its parts.
+#[tactic(auto, unfolding(crate::specs::Steps::fields_number, model::specs::Refusals::refusal))]
+fn test_parts(parts: Parts) -> Result<Line, Refusal>
+    ensures number { number_of result ≡ fields_number parts.digits parts.bytes parts.sweeps parts.llrs parts.in_range }
+    ensures line { IfOk result (λ r. (r.size ≡ parts.digits) × (r.sweeps ≡ parts.sweeps) × (r.size ≤ 1024)) }
 {
-    Line {
-        number,
-        size: 0,
-        sweeps: 0,
+    if exponent_of(parts.digits) == 0 {
+        return Err(Refusal::Length);
     }
-}
-
-// What is answered of a line with this number, N and sweeps.
-fn answer(number: u32, size: usize, sweeps: usize) -> Line
-    ensures { (result.number ≡ number) × (result.size ≡ accepted number size 0) × (result.sweeps ≡ accepted number sweeps 0) }
-{
-    if number != 0 {
-        return refused(number);
+    if !parts.bytes {
+        return Err(Refusal::MaskByte);
     }
-    Line {
-        number,
-        size,
-        sweeps,
+    if parts.llrs != parts.digits {
+        return Err(Refusal::Count);
     }
-}
-
-// Reads a line without its line feed. If it is accepted, the mask's N digits are the line's first bytes, and the array has the N LLRs at its front.
-fn read_parts(line: &[u8], llrs: &mut [i16]) -> Line
-    requires { 1024 ≤ length llrs.old }
-    ensures answered { Answered (read_fields (fields line.now)) result.number result.size result.sweeps }
-    ensures fronts { result.number ≡ 0 → Fronts line.now llrs.new result.size }
-{
-    let a = find(line, 0, b' ');
-    if a == line.len() {
-        return refused(13);
+    if !sweeps_fit(parts.sweeps) {
+        return Err(Refusal::Sweeps);
     }
-    if !digits_only(&line[..a]) {
-        return refused(13);
+    if !parts.in_range {
+        return Err(Refusal::Llr);
     }
-    let bytes = at_most(&line[..a], b'2');
-    let field = field_at(line, a + 1);
-    let number = field.number;
-    let Number::Value(z) = number else {
-        return refused(13);
-    };
-    let sweeps = sweep_count(z);
-    let read = read_llrs(line, field.next, llrs);
-    let Llrs::Numbers { count, in_range } = read else {
-        return refused(13);
-    };
-    answer(fields_number(a, bytes, sweeps, count, in_range), a, sweeps)
+    Ok(Line {
+        size: parts.digits,
+        sweeps: parts.sweeps,
+    })
 }
 
 // Stores the digits of the mask field at the front of a buffer.
@@ -139,55 +134,44 @@ fn store_digits(field: &[u8], mask: &mut [u8])
     requires { length field.now ≤ length mask.old }
     ensures { mask.new ≡ over (map digit field.now) mask.old }
 {
-    let mut i: usize = 0;
-    while i < field.len() {
-        mask[i] = digit_of(field[i]);
-        i += 1;
-    }
-}
-
-// Copies LLRs to the front of a buffer.
-fn store_llrs(from: &[i16], llrs: &mut [i16])
-    requires { length from.now ≤ length llrs.old }
-    ensures { llrs.new ≡ over from.now llrs.old }
-{
-    let mut i: usize = 0;
-    while i < from.len() {
-        llrs[i] = from[i];
-        i += 1;
+    for (i, b) in field.iter().enumerate() {
+        mask[i] = digit_of(*b);
     }
 }
 
 // Reads a line without its line feed, its LLRs into an array of its own: the lent buffers are touched only if the line is accepted.
-fn read_fields(line: &[u8], mask: &mut [u8], llrs: &mut [i16]) -> Line
-    requires { (1024 ≤ length mask.old) × (1024 ≤ length llrs.old) }
-    ensures answered { Answered (read_fields (fields line.now)) result.number result.size result.sweeps }
+fn read_fields(line: &[u8], mask: &mut [u8], llrs: &mut [i16]) -> Result<Line, Refusal>
+    requires mask_room { 1024 ≤ length mask.old }
+    requires llrs_room { 1024 ≤ length llrs.old }
+    ensures answered { Answered (read_fields (fields line.now)) (number_of result) (of_accepted (λ r. r.size) result) (of_accepted (λ r. r.sweeps) result) }
     ensures mask_after { mask.new ≡ line_mask (read_fields (fields line.now)) mask.old }
     ensures llrs_after { llrs.new ≡ line_llrs (read_fields (fields line.now)) llrs.old }
 {
     let mut read = [0i16; 1024];
-    let r = read_parts(line, &mut read);
-    if r.number != 0 {
-        return r;
-    }
-    let size = r.size;
+    let parts = read_parts(line, &mut read).ok_or(Refusal::Line)?;
+    let accepted = test_parts(parts)?;
+    let size = accepted.size;
     store_digits(&line[..size], mask);
-    store_llrs(&read[..size], llrs);
-    r
+    llrs[..size].copy_from_slice(&read[..size]);
+    Ok(accepted)
 }
 
 // Reads the line at the start of the bytes, and its mask and LLRs into the buffers' fronts. A refused line leaves the buffers as they were.
-pub fn read_line(bytes: &[u8], mask: &mut [u8; 1024], llrs: &mut [i16; 1024]) -> Line
-    ensures number_value { (result.number ≡ line_number (read_line bytes.now)) × (result.size ≡ line_size (read_line bytes.now)) × (result.sweeps ≡ line_sweeps (read_line bytes.now)) }
+pub fn read_line(
+    bytes: &[u8],
+    mask: &mut [u8; 1024],
+    llrs: &mut [i16; 1024],
+) -> Result<Line, Refusal>
+    ensures number { number_of result ≡ line_number (read_line bytes.now) }
+    ensures size { of_accepted (λ r. r.size) result ≡ line_size (read_line bytes.now) }
+    ensures sweeps { of_accepted (λ r. r.sweeps) result ≡ line_sweeps (read_line bytes.now) }
     ensures mask_after { mask.new ≡ line_mask (read_line bytes.now) mask.old }
     ensures llrs_after { llrs.new ≡ line_llrs (read_line bytes.now) llrs.old }
 {
-    let end = find(bytes, 0, b'\n');
-    if end == bytes.len() {
-        return refused(13);
-    }
-    if MAX_LINE <= end {
-        return refused(13);
-    }
+    let end = bytes
+        .iter()
+        .take(MAX_LINE)
+        .position(|b| *b == b'\n')
+        .ok_or(Refusal::Line)?;
     read_fields(&bytes[..end], mask, llrs)
 }

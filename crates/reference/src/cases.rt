@@ -4,7 +4,7 @@ ghost use Rattle.std.specs.Prelude.{◌≤◌};
 use crate::nodes::{least_stage, pattern};
 use crate::values::{short, with_sign};
 use test_tools::buffers::Bytes;
-use test_tools::numbers::{least, length_of, next};
+use test_tools::numbers::{length_of, next};
 
 // A case. The numbers determine it whole.
 #[derive(Clone, Copy)]
@@ -144,26 +144,21 @@ pub fn draw_mask(c: Case) -> Bytes {
     let mut mask = [0u8; 4112];
     let mut number = c.detail;
     let mut x = c.seed;
-    let mut i = 0;
-    while i < n {
+    for (i, byte) in mask[..n].iter_mut().enumerate() {
         x = next(x);
-        mask[i] = mask_byte(c, i, number, x);
+        *byte = mask_byte(c, i, number, x);
         number /= 3;
-        i += 1;
     }
     mask
 }
 
 // The number of a mask of n positions, to 8, whose bytes are decimal digits, the first position's first.
 pub fn mask_number(n: usize, digits: usize) -> usize {
-    let end = least(n, 8);
     let mut number = 0;
     let mut rest = digits;
-    let mut i = 0;
-    while i < end {
+    for _ in 0..n.min(8) {
         number = number % 2187 * 3 + rest % 10 % 3;
         rest /= 10;
-        i += 1;
     }
     number
 }
@@ -210,11 +205,9 @@ pub fn draw_llrs(style: usize, stage: usize, given: Bytes, seed: u32) -> [u64; 1
     let n = length_of(stage);
     let mut llrs = [0u64; 1024];
     let mut x = seed;
-    let mut i = 0;
-    while i < n {
+    for (value, byte) in llrs[..n].iter_mut().zip(&given) {
         x = next(x);
-        llrs[i] = llr(style, given[i], x);
-        i += 1;
+        *value = llr(style, *byte, x);
     }
     llrs
 }
@@ -222,10 +215,8 @@ pub fn draw_llrs(style: usize, stage: usize, given: Bytes, seed: u32) -> [u64; 1
 // The 16-bit numbers of LLRs.
 pub fn shorts(llrs: [u64; 1024]) -> [i16; 2056] {
     let mut s = [0i16; 2056];
-    let mut i = 0;
-    while i < 1024 {
-        s[i] = short(llrs[i]);
-        i += 1;
+    for (number, value) in s.iter_mut().zip(&llrs) {
+        *number = short(*value);
     }
     s
 }

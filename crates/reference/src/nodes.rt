@@ -1,10 +1,10 @@
 // Kinds of nodes, plans and cycles: a kind is found by trying the table's patterns position by position, and a plan is judged path
 // by path and node by node.
-// Kinds are numbered in request No. 4's order from 0, and 8 is none. Node p of a plan has the children 2p and 2p + 1.
+// Kinds are numbered from 0 in the order of `pattern`, and 8 is none. Node p of a plan has the children 2p and 2p + 1.
 ghost use Rattle.std.specs.Prelude.{◌≤◌};
 
 use test_tools::buffers::Bytes;
-use test_tools::numbers::{bit_if, both, length_of, minus, next};
+use test_tools::numbers::{bit_if, length_of, minus, next};
 
 const NO_KIND: u8 = 8;
 
@@ -41,28 +41,19 @@ fn fits(mask: &[u8; 4112], first: usize, size: usize, kind: u8) -> bool
     if size < length_of(least_stage(kind)) {
         return false;
     }
-    let mut k = 0;
-    while k < size {
-        if (mask[first + k] != 0) != pattern(kind, size, k) {
-            return false;
-        }
-        k += 1;
-    }
-    true
+    mask[first..first + size]
+        .iter()
+        .enumerate()
+        .all(|(k, byte)| (*byte != 0) == pattern(kind, size, k))
 }
 
 // The first kind that fits.
 fn kind_of(mask: &[u8; 4112], first: usize, size: usize) -> u8
     requires { (first ≤ 1024) × (size ≤ 1024) }
 {
-    let mut kind = 0;
-    while kind < NO_KIND {
-        if fits(mask, first, size, kind) {
-            return kind;
-        }
-        kind += 1;
-    }
-    NO_KIND
+    (0..NO_KIND)
+        .find(|kind| fits(mask, first, size, *kind))
+        .unwrap_or(NO_KIND)
 }
 
 // The kind of node p in a tree of the given stage.
@@ -75,12 +66,9 @@ fn kind_at(mask: &[u8; 4112], stage: usize, p: usize) -> u8 {
 
 // The kinds of all nodes, at the places of their numbers.
 pub fn find_kinds(mask: Bytes, stage: usize) -> Bytes {
-    let end = 2 * length_of(stage);
     let mut kinds = [0u8; 4112];
-    let mut p = 1;
-    while p < end {
+    for p in 1..2 * length_of(stage) {
         kinds[p] = kind_at(&mask, stage, p);
-        p += 1;
     }
     kinds
 }
@@ -117,15 +105,13 @@ pub fn draw_plan(kinds: Bytes, stage: usize, style: usize, seed: u32, over: Byte
     let mut plan = over;
     let mut paths = [0u8; 4112];
     let mut x = seed;
-    let mut p = 1;
     plan[0] = 0;
-    while p < 2 * n {
+    for p in 1..2 * n {
         x = next(x);
         let above = paths[p / 2];
-        let cut = both(above == 0, cuts(style, n <= p, kinds[p], x));
+        let cut = above == 0 && cuts(style, n <= p, kinds[p], x);
         paths[p] = cuts_to(above, cut);
         plan[p] = bit_if(cut);
-        p += 1;
     }
     plan
 }
@@ -141,10 +127,7 @@ pub struct Judged {
 
 // Whether a node is cut and of no kind, or a leaf whose path has not exactly one cut.
 fn fails(kind: u8, cut: bool, leaf: bool, cuts: u8) -> bool {
-    if both(cut, kind == NO_KIND) {
-        return true;
-    }
-    both(leaf, cuts != 1)
+    (cut && kind == NO_KIND) || (leaf && cuts != 1)
 }
 
 // The cycles that an allowed plan has for a node and for the edge from its parent.
@@ -152,10 +135,10 @@ fn node_cycles(kind: u8, cut: bool, root: bool, above: u8) -> u32 {
     if above != 0 {
         return 0;
     }
-    if both(cut, kind < 2) {
+    if cut && kind < 2 {
         return 0;
     }
-    if both(cut, 5 < kind) {
+    if cut && 5 < kind {
         return if root { 4 } else { 6 };
     }
     if root { 2 } else { 4 }
@@ -164,9 +147,9 @@ fn node_cycles(kind: u8, cut: bool, root: bool, above: u8) -> u32 {
 // The counts with one more of a kind, if the node is cut.
 fn counted(counts: [u32; 8], kind: u8, cut: bool) -> [u32; 8] {
     let mut next = counts;
-    if both(cut, kind < 8) {
+    if cut && kind < 8 {
         let i = (kind % 8) as usize;
-        next[i] = std::num::wrapping_add_u32(counts[i], 1);
+        next[i] = counts[i].wrapping_add(1);
     }
     next
 }
@@ -175,8 +158,8 @@ fn counted(counts: [u32; 8], kind: u8, cut: bool) -> [u32; 8] {
 fn with_node(j: Judged, n: usize, p: usize, kind: u8, cut: bool, above: u8) -> Judged {
     let counts = j.counts;
     Judged {
-        allowed: both(j.allowed, !fails(kind, cut, n <= p, cuts_to(above, cut))),
-        cycles: std::num::wrapping_add_u32(j.cycles, node_cycles(kind, cut, p == 1, above)),
+        allowed: j.allowed && !fails(kind, cut, n <= p, cuts_to(above, cut)),
+        cycles: j.cycles.wrapping_add(node_cycles(kind, cut, p == 1, above)),
         counts: counted(counts, kind, cut),
     }
 }
@@ -189,13 +172,11 @@ pub fn judge(kinds: Bytes, stage: usize, plan: Bytes) -> Judged {
         counts: [0; 8],
     };
     let mut paths = [0u8; 4112];
-    let mut p = 1;
-    while p < 2 * n {
+    for p in 1..2 * n {
         let above = paths[p / 2];
         let cut = plan[p] == 1;
         paths[p] = cuts_to(above, cut);
         found = with_node(found, n, p, kinds[p], cut, above);
-        p += 1;
     }
     found
 }

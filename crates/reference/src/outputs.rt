@@ -1,8 +1,7 @@
 // What a decode writes, and the frozen check and the number of undecided bits that it answers.
-use test_tools::buffers::{Bytes, draw_bytes, draw_words, same_bytes, same_words};
-use test_tools::numbers::both;
+use test_tools::buffers::{Bytes, draw_bytes, draw_words};
 
-#[derive(Clone, Copy)]
+#[derive(Clone, Copy, PartialEq)]
 pub struct Outputs {
     pub soft: [i32; 2056],
     pub hard: Bytes,
@@ -22,18 +21,4 @@ pub fn draw_outputs(n: usize, seed: u32) -> Outputs {
         check: 0,
         undecided: 0,
     }
-}
-
-pub fn same_outputs(a: Outputs, b: Outputs) -> bool {
-    let a_soft = a.soft;
-    let b_soft = b.soft;
-    let a_hard = a.hard;
-    let b_hard = b.hard;
-    let a_payload = a.payload;
-    let b_payload = b.payload;
-    let bits = both(same_bytes(a_hard, b_hard), same_bytes(a_payload, b_payload));
-    both(
-        both(bits, same_words(&a_soft, &b_soft, 2056)),
-        both(a.check == b.check, a.undecided == b.undecided),
-    )
 }

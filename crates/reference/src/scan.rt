@@ -48,11 +48,9 @@ fn combined(table: &[u64; 22528], own: usize, child: usize, i: usize) -> u64
 fn fill(table: &mut [u64; 22528], from: usize, to: usize, child: usize, first: usize, end: usize)
     requires { (child ≤ 10) × (first ≤ end) × (end ≤ 2048) }
 {
-    let mut i = first;
-    while i < end {
+    for i in first..end {
         let p = place(to, i);
         table[p] = combined(table, from, child, i);
-        i += 1;
     }
 }
 
@@ -99,10 +97,8 @@ fn step(table: &mut [u64; 22528], stage: usize, leaf: usize, k: usize)
 fn visit(table: &mut [u64; 22528], stage: usize, leaf: usize)
     requires { (stage ≤ 10) × (leaf < 1024) }
 {
-    let mut k = 0;
-    while k < 2 * stage {
+    for k in 0..2 * stage {
         step(table, stage, leaf, k);
-        k += 1;
     }
 }
 
@@ -112,10 +108,8 @@ fn sweep(table: &mut [u64; 22528], stage: usize, sweeps: usize)
 {
     let n = length_of(stage);
     let leaves = sweeps << stage;
-    let mut k = 0;
-    while k < leaves {
+    for k in 0..leaves {
         visit(table, stage, k % n % 1024);
-        k += 1;
     }
 }
 
@@ -135,13 +129,11 @@ fn start(table: &mut [u64; 22528], mask: Bytes, values: [u64; 1024], stage: usiz
     requires { stage ≤ 10 }
 {
     let n = length_of(stage);
-    let mut i = 0;
-    while i < n {
+    for i in 0..n {
         let p = place(stage, i);
         table[p] = values[i];
         let q = place(MESSAGES, i);
         table[q] = leaf_message(mask[i]);
-        i += 1;
     }
 }
 
@@ -152,13 +144,11 @@ fn read_root(table: &[u64; 22528], stage: usize, before: Outputs) -> Outputs
     let n = length_of(stage);
     let mut soft = before.soft;
     let mut hard = before.hard;
-    let mut i = 0;
-    while i < n {
+    for i in 0..n {
         let message = at(table, MESSAGES + stage, i);
         let total = sum(at(table, stage, i), message);
         soft[i] = soft_word(message);
         hard[i] = hard_bit(total);
-        i += 1;
     }
     let payload = before.payload;
     Outputs {

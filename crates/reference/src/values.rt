@@ -20,25 +20,17 @@ pub fn negative(a: u64) -> bool {
 
 // The number of a sign and a size.
 pub fn with_sign(minus: bool, size: u64) -> u64 {
-    if minus {
-        std::num::wrapping_sub_u64(0, size)
-    } else {
-        size
-    }
+    if minus { size.wrapping_neg() } else { size }
 }
 
 fn size(a: u64) -> u64 {
     with_sign(negative(a), a)
 }
 
-fn smaller(a: u64, b: u64) -> u64 {
-    if a < b { a } else { b }
-}
-
 // The smaller size with the product of the signs. The mark is larger than every other size, so it leaves the other value, and minus the
 // mark leaves that value negated.
 pub fn box_of(a: u64, b: u64) -> u64 {
-    with_sign(negative(a) != negative(b), smaller(size(a), size(b)))
+    with_sign(negative(a) != negative(b), size(a).min(size(b)))
 }
 
 fn is_certain(a: u64) -> bool {
@@ -53,7 +45,7 @@ pub fn sum(a: u64, b: u64) -> u64 {
     if is_certain(b) {
         return b;
     }
-    std::num::wrapping_add_u64(a, b)
+    a.wrapping_add(b)
 }
 
 // The bit of LLR plus soft value, by the sign, which the mark has too.

@@ -4,19 +4,18 @@ ghost use Rattle.std.specs.Prelude.{◌≤◌};
 use crate::outputs::Outputs;
 use crate::values::UNDECIDED;
 use test_tools::buffers::{Bytes, same_front};
-use test_tools::numbers::{bit_if, both, choose_byte, one_if};
+use test_tools::numbers::{bit_if, choose_byte, one_if};
 
 // Bit j of the product: the parity of the bits, odd bytes, at the positions that have all ones of j.
 fn column(bits: &[u8; 4112], n: usize, j: usize) -> u8
     requires { n ≤ 1024 }
 {
-    let mut odd = false;
-    let mut i = 0;
-    while i < n {
-        odd = odd != both(i & j == j, bits[i] % 2 == 1);
-        i += 1;
-    }
-    bit_if(odd)
+    let ones = bits[..n]
+        .iter()
+        .enumerate()
+        .filter(|(i, bit)| *i & j == j && **bit % 2 == 1)
+        .count();
+    bit_if(ones % 2 == 1)
 }
 
 // The first n bits times the matrix, to the front of `over`.
@@ -24,10 +23,8 @@ pub fn product(bits: Bytes, n: usize, over: Bytes) -> Bytes
     requires { n ≤ 1024 }
 {
     let mut word = over;
-    let mut j = 0;
-    while j < n {
-        word[j] = column(&bits, n, j);
-        j += 1;
+    for (j, bit) in word[..n].iter_mut().enumerate() {
+        *bit = column(&bits, n, j);
     }
     word
 }
@@ -43,12 +40,10 @@ pub fn spread(mask: Bytes, payload: Bytes, n: usize) -> Bytes
 {
     let mut bits = [0u8; 4112];
     let mut k = 0;
-    let mut j = 0;
-    while j < n {
+    for j in 0..n {
         let unfrozen = mask[j] == 0;
         bits[j] = choose_byte(unfrozen, payload[k], known_bit(mask[j]));
         k += one_if(unfrozen);
-        j += 1;
     }
     bits
 }
@@ -58,13 +53,9 @@ fn gather(mask: Bytes, bits: Bytes, n: usize, over: Bytes) -> Bytes
     requires { n ≤ 1024 }
 {
     let mut payload = over;
-    let mut k = 0;
-    let mut j = 0;
-    while j < n {
-        let unfrozen = mask[j] == 0;
-        payload[k] = choose_byte(unfrozen, bits[j], payload[k]);
-        k += one_if(unfrozen);
-        j += 1;
+    let unfrozen = bits[..n].iter().zip(&mask).filter(|(_, byte)| **byte == 0);
+    for (place, (bit, _)) in payload.iter_mut().zip(unfrozen) {
+        *place = *bit;
     }
     payload
 }
@@ -73,13 +64,7 @@ fn gather(mask: Bytes, bits: Bytes, n: usize, over: Bytes) -> Bytes
 fn undecided_of(hard: Bytes, n: usize) -> usize
     requires { n ≤ 1024 }
 {
-    let mut count = 0;
-    let mut i = 0;
-    while i < n {
-        count += one_if(hard[i] == UNDECIDED);
-        i += 1;
-    }
-    count
+    hard[..n].iter().filter(|bit| **bit == UNDECIDED).count()
 }
 
 // The outputs with the payload and the frozen check that the first n hard bits give, and how many of these are undecided. If any is, then
@@ -103,7 +88,7 @@ pub fn read_word(mask: Bytes, n: usize, out: Outputs) -> Outputs
         soft,
         hard,
         payload,
-        check: bit_if(both(undecided == 0, as_known)),
+        check: bit_if(undecided == 0 && as_known),
         undecided,
     }
 }

@@ -1,52 +1,13 @@
 -- The length of a word, and numbers backwards: from more bits to fewer, and the last three bits apart from the others. Assumes nothing.
 use mathlib.Core.Path.{◌≡◌, refl, sym, ap, ap₂, ◌∙◌}
 use Prim.Native.Nat.{ℕ, zero, suc, ◌+◌, ◌*◌, ◌-◌, ◌/◌, ◌%◌, ◌^◌, ◌<◌, ◌≤◌}
-use native.Mathlib.Nat.{zero-add, suc-add, add-mul, mul_assoc, mul-le-mul_right}
+use native.Mathlib.Nat.{zero-add, suc-add, add-mul, mul_assoc}
 use native.Mathlib.Omega.{arith}
-use mir.Syntax.{w64}
-use mir.Val.{Fits}
 use lib.Arith.{lt-one, digits_mod}
 use lib.Pow.{pow-add, pow_mono, shl-shr}
 use Rattle.model.specs.Sent.{backwards}
 use Rattle.model.proofs.Reordering.{backwards-small}
 use Rattle.reorder.specs.Places.{eight_at, spread_from, eight_from, Sized}
-
--- ---- what the machine asks of a place
-
--- of place i of n elements that take b bytes each
-pub record Reached (n b i : ℕ) : Type 0 where
-  pub place : Fits w64 i
-  pub bytes : Fits w64 (i * b)
-  pub below : i < n
-
--- of eight places that stand s, t and o apart
-pub record EightReached (n b r s t o : ℕ) : Type 0 where
-  pub at₀ : Reached n b r
-  pub at₁ : Reached n b (r + s)
-  pub at₂ : Reached n b (r + t)
-  pub at₃ : Reached n b (r + s + t)
-  pub at₄ : Reached n b (r + o)
-  pub at₅ : Reached n b (r + s + o)
-  pub at₆ : Reached n b (r + t + o)
-  pub at₇ : Reached n b (r + s + t + o)
-
-pub eight-reached : (n b r s t o : ℕ) → r + s + t + o < n → n < 2 ^ 64 → n * b < 2 ^ 64 → EightReached n b r s t o
-eight-reached n b r s t o last few room =
-    record {
-      at₀ = within r (omega arith);
-      at₁ = within (r + s) (omega arith);
-      at₂ = within (r + t) (omega arith);
-      at₃ = within (r + s + t) (omega arith);
-      at₄ = within (r + o) (omega arith);
-      at₅ = within (r + s + o) (omega arith);
-      at₆ = within (r + t + o) (omega arith);
-      at₇ = within (r + s + t + o) last;
-    }
-  where
-    within : (i : ℕ) → i < n → Reached n b i
-    within i lt =
-        let le : i * b ≤ n * b = mul-le-mul_right b (omega arith) in
-        record { place = record { fits = omega (arith, lt, few) }; bytes = record { fits = omega (arith, le, room) }; below = lt }
 
 -- ---- the length of a word
 

@@ -1,17 +1,6 @@
 -- From which place each element comes in the steps of a reordering. Assumes nothing.
-use Rattle.std.specs.Prelude.{◌≡◌, List, ℕ, zero, suc, ◌+◌, ◌-◌, ◌*◌, ◌/◌, ◌%◌, ◌^◌, ◌<◌, ◌≤◌, get_or}
+use Rattle.std.specs.Prelude.{◌≡◌, List, ℕ, ◌+◌, ◌-◌, ◌*◌, ◌/◌, ◌%◌, ◌^◌, ◌<◌, ◌≤◌, get_or}
 use Rattle.model.specs.Sent.{backwards}
-
--- eight things by their places
-abbrev pub eight : {A : Type 0} → A → A → A → A → A → A → A → A → ℕ → A
-eight a b c d e f g h zero = a
-eight a b c d e f g h (suc zero) = b
-eight a b c d e f g h (suc (suc zero)) = c
-eight a b c d e f g h (suc (suc (suc zero))) = d
-eight a b c d e f g h (suc (suc (suc (suc zero)))) = e
-eight a b c d e f g h (suc (suc (suc (suc (suc zero))))) = f
-eight a b c d e f g h (suc (suc (suc (suc (suc (suc zero)))))) = g
-eight a b c d e f g h (suc (suc (suc (suc (suc (suc (suc k))))))) = h
 
 -- place j of eight: r, s on, t on, s and t on, and those o on from these
 abbrev pub eight_at : ℕ → ℕ → ℕ → ℕ → ℕ → ℕ

@@ -1,8 +1,8 @@
--- The totals and the first refusal, with one frame more. Assumes nothing.
+-- Totals as the frames are added to them, one after the other, and the first refusal. Assumes nothing.
 use mathlib.Core.Path.{◌≡◌, refl, sym, ap, ◌∙◌}
 use mathlib.Core.Bool.{Bool, true, false, cond}
 use mathlib.Core.List.{List, [], ◌∷◌, ◌++◌}
-use Prim.Native.Nat.{ℕ, suc, ◌+◌, ◌-◌, ◌*◌, ◌^◌, ◌≤◌, ◌<◌}
+use Prim.Native.Nat.{ℕ, zero, suc, ◌+◌, ◌-◌, ◌*◌, ◌^◌, ◌≤◌, ◌<◌}
 use native.Mathlib.Nat.{zero-add, mul-le-mul_right, le-mul_of_pos_right}
 use native.Mathlib.Omega.{arith}
 use borrow.Author.Tests.{eq-eqb, ne_eqb, eqb-true, eqb-false}
@@ -13,9 +13,10 @@ use Rattle.model.specs.Lists.{tabulate}
 use Rattle.model.specs.Refusals.{refusal, row_4, row_7, accepted}
 use Rattle.model.specs.Captures.{CaptureFrame, frames_to, Totals, max_drain, with_frame, totals_from, totals_of, frame_number, frames_number}
 use Rattle.frames.specs.Frames.{FrameReplayed}
-use Rattle.planner.proofs.Written.{zeros-at}
+use Rattle.frames.specs.declared.FrameTotals.{FrameTotals}
+use Rattle.drains.specs.declared.Totals.{Totals as DrainTotals}
 use Rattle.model.proofs.Lists.{true-T, length_tabulate, get_d_tabulate, tabulate_split}
-use Rattle.replay.specs.Totals.{Free, Adds, Holds}
+use Rattle.replay.specs.Totals.{held, no_frames, Free, grown, Added, Holds}
 
 -- ---- totals
 totals_last : (mask : List ℕ) (d : ℕ) (t : Totals) (fs : List CaptureFrame) (f : CaptureFrame)
@@ -24,62 +25,50 @@ unfolding totals_from
 totals_last mask d t [] f = refl
 totals_last mask d t (x ∷ fs) f = totals_last mask d (cond (eqb x.drain d) (with_frame mask t x) t) fs f
 
-module _ (mask : List ℕ) (fs : List CaptureFrame) (f : CaptureFrame) (total : Totals → ℕ) (x : ℕ) (grows : (t : Totals) → total (with_frame mask t f) ≡ total t + x) where
-  abbrev before : ℕ → ℕ
-  before d = total (totals_of mask d fs)
+-- an accepted frame's totals are added
+module _ {mask : List ℕ} (fs : List CaptureFrame) (f : CaptureFrame) (t : FrameTotals) (r : FrameReplayed mask f 0 t.drain t.check t.differ t.cycles) where
+  abbrev before : ℕ → DrainTotals
+  before d = held (totals_of mask d fs)
 
-  abbrev after : ℕ → ℕ
-  after d = total (totals_of mask d (fs ++ f ∷ []))
+  abbrev after : ℕ → DrainTotals
+  after d = held (totals_of mask d (fs ++ f ∷ []))
 
-  after-own : (d : ℕ) → d ≡ f.drain → after d ≡ before d + x
-  after-own d e = ap total (totals_last mask d _ fs f) ∙ rw (eq-eqb f.drain d (sym e)) (grows (totals_of mask d fs))
+  grown-is : (s : Totals) → grown t (held s) ≡ held (with_frame mask s f)
+  unfolding with_frame
+  grown-is s = λ i. record { frames = s.frames + 1; checks = s.checks + r.check-is refl i; differ = s.differ + r.differ-is refl i; cycles = s.cycles + r.cycles-is refl i }
 
-  after-other : (d : ℕ) → (d ≡ f.drain → ⊥) → after d ≡ before d
-  after-other d n = ap total (totals_last mask d _ fs f) ∙ rw (ne_eqb f.drain d (λ e. n (sym e)))
+  after-own : (d : ℕ) → d ≡ t.drain → after d ≡ grown t (before d)
+  after-own d e = ap held (totals_last mask d _ fs f) ∙ rw (eq-eqb f.drain d (sym (r.drain-is refl) ∙ sym e)) (sym (grown-is (totals_of mask d fs)))
 
-  pub added : (l m : List ℕ) (k : ℕ) → l ≡ tabulate 64 before → k ≡ f.drain → k + 1 ≤ 64 → Adds k x l m → m ≡ tabulate 64 after
-  added l m k e drain lt s =
-      ext_get_or 0 m (tabulate 64 after) (long ∙ sym (length_tabulate 64 after)) (λ i h. at i (omega (arith, long)) (eqb i k) refl)
+  after-other : (d : ℕ) → (d ≡ t.drain → ⊥) → after d ≡ before d
+  after-other d n = ap held (totals_last mask d _ fs f) ∙ rw (ne_eqb f.drain d (λ e. n (sym e ∙ sym (r.drain-is refl))))
+
+  pub holds_next : (ts new : List DrainTotals) → Holds mask fs ts → t.drain < 64 → Added t ts new → Holds mask (fs ++ f ∷ []) new
+  holds_next ts new h lt s =
+      ext_get_or no_frames new (tabulate 64 after) (long ∙ sym (length_tabulate 64 after)) (λ i h. at i (omega (arith, long, h)) (eqb i k) refl)
     where
-      size : length l ≡ 64
-      size = ap length e ∙ length_tabulate 64 before
+      k : ℕ
+      k = t.drain
 
-      long : length m ≡ 64
-      long = ap length s ∙ length-set l k (get_or l k 0 + x) ∙ size
+      size : length ts ≡ 64
+      size = ap length h ∙ length_tabulate 64 before
 
-      old : (i : ℕ) → i < 64 → get_or l i 0 ≡ before i
-      old i h = ap (λ (v : List ℕ). get_or v i 0) e ∙ get_d_tabulate 64 before i 0 h
+      long : length new ≡ 64
+      long = ap length s ∙ length-set ts k (grown t (get_or ts k no_frames)) ∙ size
 
-      at : (i : ℕ) → i < 64 → (b : Bool) → eqb i k ≡ b → get_or m i 0 ≡ get_or (tabulate 64 after) i 0
-      at i h true e =
+      old : (i : ℕ) → i < 64 → get_or ts i no_frames ≡ before i
+      old i lt = ap (λ (v : List DrainTotals). get_or v i no_frames) h ∙ get_d_tabulate 64 before i no_frames lt
+
+      at : (i : ℕ) → i < 64 → (b : Bool) → eqb i k ≡ b → get_or new i no_frames ≡ get_or (tabulate 64 after) i no_frames
+      at i lt true e =
           let q : i ≡ k = eqb-true i k e in
-          ap (λ (v : List ℕ). get_or v i 0) s ∙ ap (λ (n : ℕ). get_or (set l k (get_or l k 0 + x)) n 0) q
-          ∙ get_or-set_same l k (get_or l k 0 + x) 0 (omega (arith, size)) ∙ omega (arith, old k (omega arith), ap before q, after-own i (q ∙ drain), get_d_tabulate 64 after i 0 h)
-      at i h false e =
+          ap (λ (v : List DrainTotals). get_or v i no_frames) s ∙ ap (λ (n : ℕ). get_or (set ts k (grown t (get_or ts k no_frames))) n no_frames) q
+          ∙ get_or-set_same ts k (grown t (get_or ts k no_frames)) no_frames (omega (arith, size))
+          ∙ ap (grown t) (ap (λ (n : ℕ). get_or ts n no_frames) (sym q) ∙ old i lt) ∙ sym (after-own i q) ∙ sym (get_d_tabulate 64 after i no_frames lt)
+      at i lt false e =
           let q : i ≡ k → ⊥ = eqb-false i k e in
-          ap (λ (v : List ℕ). get_or v i 0) s ∙ get_or-set_other l k i (get_or l k 0 + x) 0 q
-          ∙ old i h ∙ sym (get_d_tabulate 64 after i 0 h ∙ after-other i (λ e. q (e ∙ sym drain)))
-
-pub holds_next : {mask : List ℕ} {fs : List CaptureFrame} (f : CaptureFrame) {a b c d a' b' c' d' : List ℕ} {number drain check differ cycles : ℕ}
-    → Holds mask fs a b c d → FrameReplayed mask f number drain check differ cycles → number ≡ 0 → drain + 1 ≤ 64
-    → Adds drain 1 a a' → Adds drain check b b' → Adds drain differ c c' → Adds drain cycles d d' → Holds mask (fs ++ f ∷ []) a' b' c' d'
-unfolding with_frame
-holds_next {mask} {fs} f {a} {b} {c} {d} {a'} {b'} {c'} {d'} {number} {drain} {check} {differ} {cycles} h r z lt p q u v =
-    let is : drain ≡ f.drain = r.drain-is z in
-    record {
-      frames_are = added mask fs f (λ t. t.frames) 1 (λ t. refl) a a' drain h.frames_are is lt p;
-      checks_are = added mask fs f (λ t. t.checks) check (λ t. ap (λ (x : ℕ). t.checks + x) (sym (r.check-is z))) b b' drain h.checks_are is lt q;
-      differ_are = added mask fs f (λ t. t.differ) differ (λ t. ap (λ (x : ℕ). t.differ + x) (sym (r.differ-is z))) c c' drain h.differ_are is lt u;
-      cycles_are = added mask fs f (λ t. t.cycles) cycles (λ t. ap (λ (x : ℕ). t.cycles + x) (sym (r.cycles-is z))) d d' drain h.cycles_are is lt v;
-    }
-
-pub held-long : {mask : List ℕ} {fs : List CaptureFrame} {a b c d : List ℕ} → Holds mask fs a b c d → (length a ≡ 64) × (length b ≡ 64) × (length c ≡ 64) × (length d ≡ 64)
-held-long h = (
-  ap length h.frames_are ∙ length_tabulate 64 _,
-  ap length h.checks_are ∙ length_tabulate 64 _,
-  ap length h.differ_are ∙ length_tabulate 64 _,
-  ap length h.cycles_are ∙ length_tabulate 64 _,
-)
+          ap (λ (v : List DrainTotals). get_or v i no_frames) s ∙ get_or-set_other ts k i (grown t (get_or ts k no_frames)) no_frames q
+          ∙ old i lt ∙ sym (after-other i q) ∙ sym (get_d_tabulate 64 after i no_frames lt)
 
 -- the drain of an accepted frame
 pub drain-small : (f : CaptureFrame) → frame_number f ≡ 0 → f.drain + 1 ≤ 64
@@ -90,10 +79,13 @@ drain-small f z = go (leb f.drain max_drain) refl z
     go true e z = omega (arith, leb→le f.drain max_drain (true-T _ e))
     go false e z = absurd (omega arith)
 
+pub holds-long : (mask : List ℕ) (fs : List CaptureFrame) {ts : List DrainTotals} → Holds mask fs ts → length ts ≡ 64
+holds-long mask fs h = ap length h ∙ length_tabulate 64 _
+
 -- before the first frame
-pub holds_none : (mask bytes : List ℕ) (N : ℕ) {a b c d : List ℕ} → a ≡ replicate 64 0 → b ≡ replicate 64 0 → c ≡ replicate 64 0 → d ≡ replicate 64 0 → Holds mask (frames_to bytes N 0) a b c d
+pub holds_none : (mask bytes : List ℕ) (N : ℕ) → Holds mask (frames_to bytes N 0) (replicate 64 no_frames)
 unfolding tabulate totals_from
-holds_none mask bytes N p q u v = record { frames_are = p; checks_are = q; differ_are = u; cycles_are = v }
+holds_none mask bytes N = refl
 
 pub none_number : (bytes : List ℕ) (N : ℕ) → frames_number (frames_to bytes N 0) ≡ 0
 unfolding tabulate frames_number
@@ -103,25 +95,50 @@ pub later : (j count s : ℕ) → j < count → j * s + s ≤ count * s
 later j count s lt = let m : (j + 1) * s ≤ count * s = mul-le-mul_right s (omega arith) in omega arith
 
 -- ---- sizes: after j frames no total is above j times 2 ^ 32
-pub record Small (j : ℕ) (l : List ℕ) : Type 0 where
-  pub small : (d : ℕ) → get_or l d 0 ≤ j * 2 ^ 32
+pub record Within (most : ℕ) (t : DrainTotals) : Type 0 where
+  pub frames : t.frames ≤ most
+  pub checks : t.checks ≤ most
+  pub differ : t.differ ≤ most
+  pub cycles : t.cycles ≤ most
 
-pub small-none : {l : List ℕ} → l ≡ replicate 64 0 → Small 0 l
-small-none e = record { small = λ d. omega (arith, ap (λ (v : List ℕ). get_or v d 0) e, zeros-at 64 d) }
+pub record Small (j : ℕ) (ts : List DrainTotals) : Type 0 where
+  pub small : (d : ℕ) → Within (j * 2 ^ 32) (get_or ts d no_frames)
+
+nothing-at : (n d : ℕ) → get_or (replicate n no_frames) d no_frames ≡ no_frames
+nothing-at zero d = refl
+nothing-at (suc n) zero = refl
+nothing-at (suc n) (suc d) = nothing-at n d
+
+pub small-none : Small 0 (replicate 64 no_frames)
+small-none = record { small = λ d. rw (nothing-at 64 d) (record { frames = omega arith; checks = omega arith; differ = omega arith; cycles = omega arith }) }
 
 -- a capture has at most 65536 frames
 pub few-frames : (count s l : ℕ) → 0 < s → count * s ≤ l → l ≤ 65536 → count ≤ 65536
 few-frames count s l pos h k = omega (arith, le-mul_of_pos_right count pos)
 
-pub small-free : {j : ℕ} {l : List ℕ} → Small j l → j ≤ 65536 → Free l
-small-free s h = record { free = λ d. omega (arith, s.small d) }
+pub small-free : {j : ℕ} {ts : List DrainTotals} → Small j ts → j ≤ 65536 → Free ts
+small-free s h = record { free = λ d. let w = s.small d in record { frames = omega (arith, w.frames); checks = omega (arith, w.checks); differ = omega (arith, w.differ); cycles = omega (arith, w.cycles) } }
 
-pub small-next : {j : ℕ} {l : List ℕ} (m : List ℕ) (k x : ℕ) → Small j l → k < length l → x ≤ 2 ^ 32 → Adds k x l m → Small (j + 1) m
-small-next {j} {l} m k x s lt le e = record { small = λ d. go d (eqb d k) refl }
+-- a frame's own numbers have 32 bits
+pub record Narrow (f : FrameTotals) : Type 0 where
+  pub check : f.check ≤ 2 ^ 32
+  pub differ : f.differ ≤ 2 ^ 32
+  pub cycles : f.cycles ≤ 2 ^ 32
+
+pub small-next : {j : ℕ} {ts : List DrainTotals} (new : List DrainTotals) (f : FrameTotals) → Small j ts → f.drain < length ts → Narrow f → Added f ts new → Small (j + 1) new
+small-next {j} {ts} new f s lt n e = record { small = λ d. go d (eqb d f.drain) refl }
   where
-    go : (d : ℕ) (b : Bool) → eqb d k ≡ b → get_or m d 0 ≤ (j + 1) * 2 ^ 32
-    go d true t = let q : d ≡ k = eqb-true d k t in omega (arith, ap (λ (v : List ℕ). get_or v d 0) e, ap (λ (n : ℕ). get_or (set l k (get_or l k 0 + x)) n 0) q, get_or-set_same l k (get_or l k 0 + x) 0 lt, s.small k)
-    go d false t = let q : d ≡ k → ⊥ = eqb-false d k t in omega (arith, ap (λ (v : List ℕ). get_or v d 0) e, get_or-set_other l k d (get_or l k 0 + x) 0 q, s.small d)
+    go : (d : ℕ) (b : Bool) → eqb d f.drain ≡ b → Within ((j + 1) * 2 ^ 32) (get_or new d no_frames)
+    go d true t =
+        let q : d ≡ f.drain = eqb-true d f.drain t in
+        let w = s.small f.drain in
+        rw (e, q, get_or-set_same ts f.drain (grown f (get_or ts f.drain no_frames)) no_frames lt)
+        (record { frames = omega (arith, w.frames); checks = omega (arith, w.checks, n.check); differ = omega (arith, w.differ, n.differ); cycles = omega (arith, w.cycles, n.cycles) })
+    go d false t =
+        let q : d ≡ f.drain → ⊥ = eqb-false d f.drain t in
+        let w = s.small d in
+        rw (e, get_or-set_other ts f.drain d (grown f (get_or ts f.drain no_frames)) no_frames q)
+        (record { frames = omega (arith, w.frames); checks = omega (arith, w.checks); differ = omega (arith, w.differ); cycles = omega (arith, w.cycles) })
 
 -- ---- the first refusal
 pub number_behind : (fs gs : List CaptureFrame) → frames_number fs ≡ 0 → frames_number (fs ++ gs) ≡ frames_number gs

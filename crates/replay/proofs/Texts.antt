@@ -6,9 +6,9 @@ use Prim.Native.Nat.{ℕ, zero, suc, ◌+◌, ◌-◌, ◌*◌, ◌≤◌, ◌<�
 use native.Mathlib.Omega.{arith}
 use borrow.Author.Tests.{ne_eqb, eqb-true, eqb-false, le-leb, lt-leb}
 use lib.Dec.{eqb, leb}
-use lib.ListN.{length, get_or, take, drop, length-drop}
+use lib.ListN.{length, get_or, get_or-map, take, drop, length-drop}
 use lib.Seq.{length-take-le, take_all}
-use Rattle.model.specs.Lists.{tabulate, at_most, part, over}
+use Rattle.model.specs.Lists.{at_most, part, over}
 use Rattle.model.specs.Encoding.{max_mask}
 use Rattle.model.specs.Refusals.{refusal, row_1, row_2, exponent, plan_number, plan_bytes}
 use Rattle.model.specs.Captures.{CaptureFrame, Totals, totals_of, max_capture, frame_size, is_capture, mask_in, mask_size, frames_to, frames_in, frames_number, number_before_frames, capture_number}
@@ -18,17 +18,15 @@ use Rattle.planner.proofs.Results.{passed, front}
 use Rattle.printer.specs.Text.{no_text}
 use Rattle.printer.specs.Put.{Printed}
 use Rattle.printer.proofs.Whole.{reprinted}
-use Rattle.drains.specs.Text.{drain_line, drains_text, totals_at}
+use Rattle.drains.specs.Text.{drain_line, drains_text, totals_in}
+use Rattle.drains.specs.declared.Totals.{Totals as DrainTotals}
 use Rattle.captures.specs.Layouts.{LaidOut}
 use Rattle.captures.proofs.Laws.{laid_capture, laid-whole, laid-frames, laid-small, laid-mask, laid-frames_in}
 use Rattle.frames.specs.Frames.{Planned}
-use Rattle.replay.specs.Totals.{Holds}
+use Rattle.replay.specs.Totals.{held, no_frames, Holds}
 use Rattle.replay.specs.Program.{lines_text, capture_text, totals_number, TotalsWritten, replay_text, max_replay, Replayed, number_from_mask}
 
 -- ---- lines
-at : {l : List ℕ} (f : ℕ → ℕ) (d : ℕ) → l ≡ tabulate 64 f → d < 64 → get_or l d 0 ≡ f d
-at f d e lt = ap (λ (v : List ℕ). get_or v d 0) e ∙ get_d_tabulate 64 f d 0 lt
-
 -- two functions that agree below 64 give the same lines
 same_lines : (s t : ℕ → Totals) → ((d : ℕ) → d < 64 → s d ≡ t d) → (k d : ℕ) → d + k ≤ 64 → drains_text k d s ≡ drains_text k d t
 unfolding drains_text
@@ -36,15 +34,18 @@ same_lines s t e zero d le = refl
 same_lines s t e (suc k) d le =
     ap₂ (λ (x : Totals) (y : List ℕ). drain_line d x.frames x.checks x.differ x.cycles ++ y) (e d (omega arith)) (same_lines s t e k (suc d) (omega arith))
 
-pub held-lines : {mask : List ℕ} {fs : List CaptureFrame} {a b c e : List ℕ} → Holds mask fs a b c e → drains_text 64 0 (totals_at a b c e) ≡ lines_text mask fs
-held-lines {mask} {fs} {a} {b} {c} {e} h = same_lines (totals_at a b c e) (λ d. totals_of mask d fs) each 64 0 (omega arith)
+pub held-lines : (mask : List ℕ) (fs : List CaptureFrame) {ts : List DrainTotals} → Holds mask fs ts → drains_text 64 0 (totals_in ts) ≡ lines_text mask fs
+held-lines mask fs {ts} h = same_lines (totals_in ts) (λ d. totals_of mask d fs) each 64 0 (omega arith)
   where
-    each : (d : ℕ) → d < 64 → totals_at a b c e d ≡ totals_of mask d fs
+    at : (d : ℕ) → d < 64 → get_or ts d no_frames ≡ held (totals_of mask d fs)
+    at d lt = ap (λ (l : List DrainTotals). get_or l d no_frames) h ∙ get_d_tabulate 64 (λ n. held (totals_of mask n fs)) d no_frames lt
+
+    each : (d : ℕ) → d < 64 → totals_in ts d ≡ totals_of mask d fs
     each d lt = λ i. record {
-      frames = at (λ n. (totals_of mask n fs).frames) d h.frames_are lt i;
-      checks = at (λ n. (totals_of mask n fs).checks) d h.checks_are lt i;
-      differ = at (λ n. (totals_of mask n fs).differ) d h.differ_are lt i;
-      cycles = at (λ n. (totals_of mask n fs).cycles) d h.cycles_are lt i;
+      frames = (get_or-map (λ (t : DrainTotals). t.frames) ts d no_frames ∙ ap (λ (t : DrainTotals). t.frames) (at d lt)) i;
+      checks = (get_or-map (λ (t : DrainTotals). t.checks) ts d no_frames ∙ ap (λ (t : DrainTotals). t.checks) (at d lt)) i;
+      differ = (get_or-map (λ (t : DrainTotals). t.differ) ts d no_frames ∙ ap (λ (t : DrainTotals). t.differ) (at d lt)) i;
+      cycles = (get_or-map (λ (t : DrainTotals). t.cycles) ts d no_frames ∙ ap (λ (t : DrainTotals). t.cycles) (at d lt)) i;
     }
 
 -- ---- from the mask's tests on
@@ -138,23 +139,24 @@ module _ (bytes : List ℕ) {out after : List ℕ} {number end : ℕ} (r : Repla
       rw z (record { bytes = r.bytes ∙ rw z; ends = r.ends ∙ rw z; size = r.size z })
 
 -- ---- a call for the totals
+module _ (bytes out : List ℕ) where
+  nothing_written : {number : ℕ} → (number ≡ 0 → ⊥) → number ≡ totals_number bytes (length out) → TotalsWritten bytes out out number 0
+  nothing_written {number} n is = let z = ne_eqb number 0 n in record { number_is = is; ends = rw z; written = rw z; size = omega arith }
+
+  -- a buffer that is too short: the capture is replayed into another one, and its refusal comes first
+  module _ {other left : List ℕ} {number end : ℕ} (r : Replayed (capture_number bytes) (capture_text bytes) other left number end) where
+    pub refused-first : (number ≡ 0 → ⊥) → TotalsWritten bytes out out number 0
+    unfolding totals_number
+    refused-first n = nothing_written n (r.number_is ∙ sym (rw (ne_eqb (capture_number bytes) 0 (λ z. n (r.number_is ∙ z)))))
+
+    -- and then 11
+    pub too_short : number ≡ 0 → length out < max_replay → TotalsWritten bytes out out 11 0
+    unfolding totals_number refusal
+    too_short z lt =
+        let zero_is : capture_number bytes ≡ 0 = sym r.number_is ∙ z in
+        nothing_written (λ z. omega (arith, z)) (sym (rw (zero_is, lt-leb max_replay (length out) lt)))
+
 module _ (bytes out : List ℕ) {number end : ℕ} where
-  -- a buffer that is too short: the capture's number, which is known from a replay into another buffer, and then 11
-  pub too_short : {other left : List ℕ} {n k : ℕ} → length out < max_replay → Replayed (capture_number bytes) (capture_text bytes) other left n k → number ≡ cond (not (eqb n 0)) n 11 → end ≡ 0 → TotalsWritten bytes out out number end
-  unfolding totals_number refusal
-  too_short {other} {left} {n} {k} lt r is e = go (eqb n 0) refl is
-    where
-      nothing_written : (number ≡ 0 → ⊥) → number ≡ totals_number bytes (length out) → TotalsWritten bytes out out number end
-      nothing_written n is = let z = ne_eqb number 0 n in record { number_is = is; ends = rw z e; written = rw z refl; size = omega (arith, e) }
-
-      go : (b : Bool) → eqb n 0 ≡ b → number ≡ cond (not b) n 11 → TotalsWritten bytes out out number end
-      go true q d =
-          let zero_is : capture_number bytes ≡ 0 = sym r.number_is ∙ eqb-true n 0 q in
-          nothing_written (λ z. omega (arith, d)) (d ∙ sym (rw (zero_is, lt-leb max_replay (length out) lt)))
-      go false q d =
-          let not-zero = eqb-false n 0 q in
-          nothing_written (λ z. not-zero (sym d ∙ z)) (d ∙ r.number_is ∙ sym (rw (ne_eqb (capture_number bytes) 0 (λ z. not-zero (r.number_is ∙ z)))))
-
   -- a buffer that has room: the lines are there in whole
   pub with_room_lem : {after : List ℕ} → max_replay ≤ length out → Replayed (capture_number bytes) (capture_text bytes) out after number end → TotalsWritten bytes out after number end
   unfolding totals_number refusal

@@ -3,10 +3,10 @@
 ghost use Rattle.std.specs.Prelude.{◌≤◌, IfOk};
 
 use crate::single::text_by_frames;
-use crate::texts::{FILLER, Text, lines_of, same_text, unpack};
+use crate::texts::{FILLER, Text, lines_of, unpack};
 use std::io;
 use test_tools::buffers::{byte_at, bytes, lent_bytes};
-use test_tools::numbers::{both, least, minus, one_if};
+use test_tools::numbers::{least, minus, number_of, one_if};
 use test_tools::report::{end_line, print_values};
 use test_tools::tally::Count;
 use test_tools::texts::{find, number, part, put_all};
@@ -48,7 +48,8 @@ fn replayed(capture: &[u8], room: usize) -> Text {
     Text { bytes: out, length }
 }
 
-// What that call is to leave: the text, as far as there is room.
+// What that call is to leave: the text, as far as there is room. `expected` in line_test is the same for a longer buffer: one function
+// for both would take a `Text` with the size of its buffer as a parameter, at every use of it.
 fn cut(text: Text, room: usize) -> Text {
     let whole = text.bytes;
     let mut out = [FILLER; 8192];
@@ -67,7 +68,7 @@ fn right(
 ) -> io::Result<bool> {
     let expected = cut(text, room);
     let got = replayed(capture, room);
-    if same_text(got, expected) {
+    if got == expected {
         return Ok(true);
     }
     print_mismatch(rt, number, name, room, expected, got)?;
@@ -119,16 +120,17 @@ fn right_totals(
     let r = replay::replay_totals(capture, lent_bytes(&mut out, room));
     let got = Text {
         bytes: out,
-        length: r.length,
+        length: r.unwrap_or(0),
     };
-    if both(r.number == number, same_text(got, expected)) {
+    let given = number_of(&r);
+    if given == number && got == expected {
         return Ok(true);
     }
     print_mismatch(rt, case, name, room, expected, got)?;
     print_values(
         rt,
         b"expected number |, got ",
-        [number as usize, r.number as usize, 0, 0, 0, 0, 0, 0],
+        [number as usize, given as usize, 0, 0, 0, 0, 0, 0],
     )?;
     end_line(rt)?;
     Ok(false)
@@ -152,7 +154,7 @@ fn compared_whole(
     };
     let totals = right_totals(rt, number, name, capture, text, LONGEST)?;
     let no_room = right_totals(rt, number, name, capture, text, LONGEST - 1)?;
-    Ok(one_if(both(whole, by_frames)) + one_if(totals) + one_if(no_room))
+    Ok(one_if(whole && by_frames) + one_if(totals) + one_if(no_room))
 }
 
 // These, and two calls with buffers that are shorter than the text, if it is not empty.

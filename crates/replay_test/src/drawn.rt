@@ -44,11 +44,9 @@ fn put_mask(out: &mut [u8], from: usize, stage: usize, style: usize, seed: u32) 
     let threshold = (seed / 16) as usize;
     let mut x = seed;
     let mut at = from;
-    let mut k = 0;
-    while k < n {
+    for k in 0..n {
         x = next(x);
         at = put(out, at, mask_byte(style, n, k, threshold, x));
-        k += 1;
     }
     at
 }
@@ -95,11 +93,9 @@ fn put_frame(out: &mut [u8], from: usize, stage: usize, seed: u32) -> usize {
     let e = put_word(out, from, seed / 4096 % 8 * 9);
     let mut at = put_word(out, e, 1 + seed / 262144 % 8);
     let mut x = seed;
-    let mut k = 0;
-    while k < n {
+    for _ in 0..n {
         x = next(x);
         at = put_word(out, at, llr(style, x));
-        k += 1;
     }
     at
 }
@@ -107,10 +103,8 @@ fn put_frame(out: &mut [u8], from: usize, stage: usize, seed: u32) -> usize {
 // Each frame is drawn from a seed of its own.
 fn put_frames(out: &mut [u8], stage: usize, count: u32, seed: u32) -> usize {
     let mut at = 0;
-    let mut k = 0;
-    while k < count {
+    for k in 0..count {
         at = put_frame(out, at, stage, seed_of(seed, k));
-        k += 1;
     }
     at
 }
@@ -148,10 +142,8 @@ fn run_drawn(rt: &impl Print, stage: usize, i: usize) -> io::Result<bool> {
 // All drawn captures of a stage.
 pub fn run_stage(rt: &impl Print, stage: usize) -> io::Result<Count> {
     let mut right = 0;
-    let mut i = 0;
-    while i < DRAWN {
+    for i in 0..DRAWN {
         right += one_if(run_drawn(rt, stage, i)?);
-        i += 1;
     }
     Ok(Count {
         cases: DRAWN,

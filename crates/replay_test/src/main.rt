@@ -12,42 +12,15 @@ mod texts;
 use cases::run_case;
 use drawn::run_stage;
 use std::io;
-use test_tools::buffers::{byte_at, bytes};
+use test_tools::buffers::bytes;
 use test_tools::input::read_full;
-use test_tools::tally::{Tally, end_group, next_number, no_cases, report_count, with_count};
-use test_tools::texts::{find, part};
-
-fn with_case(rt: &impl Print, t: Tally, record: &[u8]) -> io::Result<Tally> {
-    Ok(with_count(t, run_case(rt, next_number(t), record)?))
-}
-
-// A line of the file: a comment, the end of a group, or a case.
-fn run_record(rt: &impl Print, t: Tally, record: &[u8]) -> io::Result<Tally> {
-    match byte_at(record, 0) {
-        b'#' => Ok(t),
-        b'=' => end_group(rt, t, part(record, 2, record.len())),
-        _ => with_case(rt, t, record),
-    }
-}
-
-fn run_file(rt: &impl Print, file: &[u8]) -> io::Result<Tally> {
-    let mut t = no_cases();
-    let mut at = 0;
-    while at < file.len() {
-        let e = find(file, at, b'\n');
-        t = run_record(rt, t, part(file, at, e))?;
-        at = e + 1;
-    }
-    Ok(t)
-}
+use test_tools::tally::{Tally, end_group, report_count, run_cases, with_count};
 
 // The drawn captures of all N, as one group more.
 fn run_drawn(rt: &impl Print, before: Tally) -> io::Result<Tally> {
     let mut t = before;
-    let mut stage = 1;
-    while stage < 11 {
+    for stage in 1..=10 {
         t = with_count(t, run_stage(rt, stage)?);
-        stage += 1;
     }
     end_group(rt, t, b"drawn, N 2 to 1024")
 }
@@ -55,6 +28,11 @@ fn run_drawn(rt: &impl Print, before: Tally) -> io::Result<Tally> {
 fn main(rt: HostRuntime) -> io::Result<()> {
     let mut file = [0u8; 262144];
     let n = read_full(&mut rt.stdin(), &mut file)?;
-    let t = run_drawn(&rt, run_file(&rt, bytes(&file, n))?)?;
-    report_count(&rt, b"all", t.total)
+    let given = run_cases(
+        &rt,
+        bytes(&file, n),
+        |number, record| run_case(&rt, number, record),
+    )?;
+    let all = run_drawn(&rt, given)?;
+    report_count(&rt, b"all", all.total)
 }

@@ -2,6 +2,7 @@
 ghost use Rattle.std.specs.Prelude.{◌<◌, ◌≤◌};
 
 use crate::texts::{FILLER, Text};
+use decode::Decoded;
 use itoa::Buffer;
 use test_tools::buffers::{byte_at, bytes, shorts};
 use test_tools::numbers::{bit_if, least, minus, one_if, signed};
@@ -26,24 +27,18 @@ fn llr_word(frame: &[u8], k: usize) -> usize
 }
 
 fn read_llrs(frame: &[u8], n: usize) -> [i16; 1024] {
-    let end = least(n, 1024);
     let mut llrs = [0i16; 1024];
-    let mut k = 0;
-    while k < end {
-        llrs[k] = signed(llr_word(frame, k));
-        k += 1;
+    for (k, llr) in llrs.iter_mut().take(n).enumerate() {
+        *llr = signed(llr_word(frame, k));
     }
     llrs
 }
 
 // How many of n hard bits differ from the sign of the frame's LLR, as every undecided one does.
 fn differing(frame: &[u8], hard: &[u8], n: usize) -> u64 {
-    let end = least(n, 1024);
     let mut count = 0;
-    let mut k = 0;
-    while k < end {
+    for k in 0..least(n, 1024) {
         count += one_if(byte_at(hard, k) != bit_if(32768 <= llr_word(frame, k)));
-        k += 1;
     }
     count as u64
 }
@@ -65,7 +60,7 @@ fn decode_single(mask: &[u8], plan: &[u8], frame: &[u8]) -> Single {
     let mut payload = [0u8; 1024];
     let mut work = [0i32; 13312];
     let sweeps = word_at(frame, 2);
-    let d = decode::decode(
+    let decoded = decode::decode(
         mask,
         plan,
         sweeps,
@@ -75,6 +70,11 @@ fn decode_single(mask: &[u8], plan: &[u8], frame: &[u8]) -> Single {
         &mut payload,
         &mut work,
     );
+    let d = decoded.unwrap_or(Decoded {
+        cycles: 0,
+        check: 0,
+        undecided: 0,
+    });
     Single {
         drain: word_at(frame, 0),
         check: d.check as u64,
@@ -97,7 +97,7 @@ struct Totals {
 fn added(totals: [u64; 64], drain: usize, amount: u64) -> [u64; 64] {
     let mut sums = totals;
     if drain < 64 {
-        sums[drain] = std::num::wrapping_add_u64(sums[drain], amount);
+        sums[drain] = sums[drain].wrapping_add(amount);
     }
     sums
 }
@@ -126,10 +126,8 @@ fn totals_to(capture: &[u8], end: usize, mask: &[u8], plan: &[u8]) -> Totals
         differ: [0; 64],
         cycles: [0; 64],
     };
-    let mut at = 0;
-    while at < end {
+    for at in (0..end).step_by(size) {
         t = with_frame(t, decode_single(mask, plan, part(capture, at, at + size)));
-        at += size;
     }
     t
 }
@@ -168,10 +166,8 @@ fn put_drain(out: &mut [u8], at: usize, t: Totals, drain: usize) -> usize
 fn text_of(t: Totals) -> Text {
     let mut bytes = [FILLER; 8192];
     let mut n = 0;
-    let mut drain = 0;
-    while drain < 64 {
+    for drain in 0..64 {
         n = put_drain(&mut bytes, n, t, drain);
-        drain += 1;
     }
     Text { bytes, length: n }
 }

@@ -2,24 +2,16 @@
 // stands for the digits so many times.
 ghost use Rattle.std.specs.Prelude.{◌<◌, ◌≤◌, length};
 
-use test_tools::buffers::byte_at;
-use test_tools::numbers::both;
 use test_tools::texts::{find, number, part, put};
 
 // What a buffer for a text holds before; no text has this byte.
 pub const FILLER: u8 = b'#';
 
 // More than the longest text.
-#[derive(Clone, Copy)]
+#[derive(Clone, Copy, PartialEq)]
 pub struct Text {
     pub bytes: [u8; 8192],
     pub length: usize,
-}
-
-pub fn same_text(a: Text, b: Text) -> bool {
-    let x = a.bytes;
-    let y = b.bytes;
-    both(a.length == b.length, check::same(&x, &y))
 }
 
 fn line_byte(b: u8) -> u8 {
@@ -30,22 +22,19 @@ fn line_byte(b: u8) -> u8 {
 pub fn lines_of(s: &[u8]) -> Text {
     let mut bytes = [FILLER; 8192];
     let mut n = 0;
-    let mut i = 0;
-    while i < s.len() {
-        n = put(&mut bytes, n, line_byte(byte_at(s, i)));
-        i += 1;
+    for b in s {
+        n = put(&mut bytes, n, line_byte(*b));
     }
     Text { bytes, length: n }
 }
 
 // ---- bytes in hexadecimal digits
 
+// Two digits are a byte. A last digit that has no second one gives the byte 0, since `part` is empty there.
 fn put_digits(out: &mut [u8], from: usize, digits: &[u8]) -> usize {
     let mut at = from;
-    let mut i = 0;
-    while i < digits.len() {
-        at = put(out, at, (number(part(digits, i, i + 2)) % 256) as u8);
-        i += 2;
+    for pair in digits.chunks(2) {
+        at = put(out, at, (number(part(pair, 0, 2)) % 256) as u8);
     }
     at
 }
@@ -94,18 +83,18 @@ fn piece_at(s: &[u8], at: usize) -> Piece
 fn put_piece(out: &mut [u8], from: usize, s: &[u8], p: Piece) -> usize {
     let digits = part(s, p.from, p.end);
     let mut at = from;
-    let mut i = 0;
-    while i < p.count {
+    for _ in 0..p.count {
         at = put_digits(out, at, digits);
-        i += 1;
     }
     at
 }
 
-// The bytes that a text of the file stands for; answers how many.
+// The bytes that a text of the file stands for; answers how many. `unescape` in line_test is the same over tokens: one loop for both would
+// be handed what reads a piece and what stores it, which is no shorter than the loop.
 pub fn unpack(s: &[u8], out: &mut [u8]) -> usize {
     let mut n = 0;
     let mut at = 0;
+    // No `for`: a piece says itself where the next one begins.
     while at < s.len() {
         let p = piece_at(s, at);
         n = put_piece(out, n, s, p);

@@ -1,30 +1,18 @@
--- The planner's answer to a C host. Assumes nothing.
-use Prim.Native.Nat.{ℕ, ◌*◌}
-use native.Mathlib.Omega.{arith}
-use mathlib.Core.Path.{◌≡◌, ◌∙◌}
-use mathlib.Core.Bool.{false}
-use mathlib.Core.List.{List}
-use borrow.Author.Tests.{ne_eqb}
-use lib.Dec.{eqb}
-use lib.ListN.{length}
-use Rattle.model.specs.Refusals.{plan_number, plan_counts, plan_cycles}
-use Rattle.ruznavo.specs.Answers.{PlanAnswer, host_counts}
+-- The planner's counts for a C host. Assumes nothing.
+use Rattle.std.proofs.Common.{◌≡◌, ℕ, List, ◌∙◌, ne_eqb}
+use Rattle.model.specs.Refusals.{plan_number, plan_counts}
+use Rattle.inputs.specs.declared.Refusal.{Refusal}
+use Rattle.inputs.specs.Numbers.{refusal_number}
+use Rattle.inputs.proofs.Rows.{refusal_not_zero}
+use Rattle.ruznavo.specs.Answers.{host_counts}
 
-module _ (mask plan : List ℕ) where
-  -- a refused call answers its number, and the counts stay
-  pub refused : {k : ℕ} (counts : List ℕ) → k ≡ plan_number mask (length plan) → (k ≡ 0 → ⊥)
-      → PlanAnswer mask (length plan) k × (counts ≡ host_counts mask (length plan) counts)
-  unfolding plan_cycles host_counts
-  refused counts e h =
-      let z : eqb (plan_number mask (length plan)) 0 ≡ false = ne_eqb (plan_number mask (length plan)) 0 (λ y. h (e ∙ y)) in
-      (rw z (omega (arith, e)), rw z)
+module _ (mask : List ℕ) (room : ℕ) (counts : List ℕ) where
+  -- an accepted call leaves the planner's counts
+  pub counted : {cs : List ℕ} → 0 ≡ plan_number mask room → cs ≡ plan_counts mask room → cs ≡ host_counts mask room counts
+  unfolding host_counts
+  counted number e = rw (← number) e
 
-  module _ (number : 0 ≡ plan_number mask (length plan)) where
-    -- an accepted call answers the cycles
-    pub answered : {c : ℕ} → c ≡ plan_cycles mask (length plan) → PlanAnswer mask (length plan) (256 * c)
-    answered e = rw (← number) (omega (arith, e))
-
-    -- and leaves the planner's counts
-    pub counted : {cs : List ℕ} (counts : List ℕ) → cs ≡ plan_counts mask (length plan) → cs ≡ host_counts mask (length plan) counts
-    unfolding host_counts
-    counted counts e = rw (← number) e
+  -- after a refused one the counts stay
+  pub counts_stay : (r : Refusal) → refusal_number r ≡ plan_number mask room → counts ≡ host_counts mask room counts
+  unfolding host_counts
+  counts_stay r e = rw (ne_eqb (plan_number mask room) 0 (λ y. refusal_not_zero r (e ∙ y)))

@@ -6,24 +6,37 @@ ghost use Rattle.model.specs.Refusals.{samples_number, samples_llrs, encode_numb
 ghost use Rattle.model.specs.Masks.{weight_number, weight_mask_after};
 ghost use Rattle.model.specs.Distance.{distance_mask_after};
 ghost use Rattle.model.specs.Erasure.{erasure_number, erasure_mask_after};
-ghost use Rattle.masks.specs.Answers.{answer_number, answer_found};
+ghost use Rattle.inputs.specs.Numbers.{number_of, of_accepted};
+ghost use Rattle.model.specs.Lists.{bit};
 ghost use Rattle.transform.specs.Calls.{transform_number, transform_bytes};
 ghost use Rattle.decode.specs.Calls.{lent, given};
 ghost use Rattle.scan_flip.specs.Answers as flips;
 ghost use Rattle.scan_flip.specs.Calls.{flip_call};
 ghost use Rattle.ruznavo.specs.Answers.{CheckAnswer, PlanAnswer, host_counts, DecodeAnswer, DistanceAnswer, FlipAnswer, ReplayAnswer};
 
+use attempts::Attempted;
 use decode::decode;
 use encode::encode;
 use erasure::mask_by_erasure;
+use inputs::Refusal;
 use kinds::KINDS;
-use masks::{ForDistance, mask_by_weight, mask_for_distance};
+use masks::{mask_by_weight, mask_for_distance};
 use planner::plan_mask;
 use plans::check_plan;
 use replay::replay_totals;
 use samples::{Channel, samples_to_llrs};
-use scan_flip::{FlipDecoded, decode_flips};
+use scan_flip::decode_flips;
 use transform::transform;
+
+// The number of an answer: 0 where the call is accepted.
+fn number(answer: Result<(), Refusal>) -> u64
+    ensures { result ≡ number_of answer }
+{
+    match answer {
+        Ok(()) => 0,
+        Err(refusal) => refusal.number() as u64,
+    }
+}
 
 // Samples to LLRs, at the noise variance. The answer is the number.
 pub fn ruznavo_samples(samples: &[f32], marks: &[u8], variance: f32, llrs: &mut [i16]) -> u64
@@ -31,7 +44,7 @@ pub fn ruznavo_samples(samples: &[f32], marks: &[u8], variance: f32, llrs: &mut 
     ensures llrs_after { llrs.new ≡ samples_llrs samples.now marks.now variance llrs.old }
 {
     let channel = Channel { variance };
-    samples_to_llrs(samples, marks, channel, llrs) as u64
+    number(samples_to_llrs(samples, marks, channel, llrs))
 }
 
 // The word of a payload. The answer is the number.
@@ -39,7 +52,7 @@ pub fn ruznavo_encode(mask: &[u8], payload: &[u8], word: &mut [u8]) -> u64
     ensures value { result ≡ encode_number mask.now payload.now (length word.old) }
     ensures word_after { word.new ≡ encode_word mask.now payload.now word.old }
 {
-    encode(mask, payload, word) as u64
+    number(encode(mask, payload, word))
 }
 
 // The transform in place. The answer is the number.
@@ -47,15 +60,17 @@ pub fn ruznavo_transform(bits: &mut [u8]) -> u64
     ensures value { result ≡ transform_number bits.old }
     ensures bits_after { bits.new ≡ transform_bytes bits.old }
 {
-    transform(bits) as u64
+    number(transform(bits))
 }
 
 // A check of a plan. The answer is number + 256 × cycles of one sweep.
 pub fn ruznavo_check_plan(mask: &[u8], plan: &[u8]) -> u64
     ensures { CheckAnswer mask.now plan.now result }
 {
-    let c = check_plan(mask, plan);
-    c.number as u64 + 256 * c.cycles as u64
+    match check_plan(mask, plan) {
+        Ok(cycles) => 256 * cycles as u64,
+        Err(fault) => fault.number() as u64,
+    }
 }
 
 // The planner's plan, and the counts of its cut nodes by kind. The answer is number + 256 × cycles of one sweep.
@@ -64,13 +79,14 @@ pub fn ruznavo_plan(mask: &[u8], plan: &mut [u8], counts: &mut [u32; KINDS]) -> 
     ensures plan_after { plan.new ≡ plan_bytes mask.now plan.old }
     ensures counts_after { counts.new ≡ host_counts mask.now (length plan.old) counts.old }
 {
-    let p = plan_mask(mask, plan);
-    if p.number != 0 {
-        return p.number as u64;
+    match plan_mask(mask, plan) {
+        Ok(p) => {
+            let by_kind = p.counts;
+            *counts = by_kind;
+            256 * p.cycles as u64
+        }
+        Err(refusal) => refusal.number() as u64,
     }
-    let by_kind = p.counts;
-    *counts = by_kind;
-    256 * p.cycles as u64
 }
 
 // A decode. The answer is number + 256 × cycles + 2 ^ 40 × frozen check + 2 ^ 41 × number of undecided bits.
@@ -90,10 +106,14 @@ pub fn ruznavo_decode(
         (lent soft.new hard.new payload.new work.new)
         result }
 {
-    let d = decode(mask, plan, sweeps, llrs, soft, hard, payload, work);
-    let check = 1099511627776 * d.check as u64;
-    let undecided = 2199023255552 * d.undecided as u64;
-    d.number as u64 + 256 * d.cycles as u64 + check + undecided
+    match decode(mask, plan, sweeps, llrs, soft, hard, payload, work) {
+        Ok(d) => {
+            let check = 1099511627776 * d.check as u64;
+            let undecided = 2199023255552 * d.undecided as u64;
+            256 * d.cycles as u64 + check + undecided
+        }
+        Err(refusal) => refusal.number() as u64,
+    }
 }
 
 // The mask of N and K by row weight. The answer is the number.
@@ -101,20 +121,16 @@ pub fn ruznavo_mask_by_weight(n: usize, k: usize, mask: &mut [u8]) -> u64
     ensures value { result ≡ weight_number n k (length mask.old) }
     ensures mask_after { mask.new ≡ weight_mask_after n k mask.old }
 {
-    mask_by_weight(n, k, mask) as u64
+    number(mask_by_weight(n, k, mask))
 }
 
-// The number of a case, and 256 more where a mask was written.
-fn distance_answer(answer: ForDistance) -> u64
-    ensures { result ≡ answer_number answer + 256 * answer_found answer }
+// The number of an answer, and 256 more where a mask was written.
+fn distance_answer(answer: Result<bool, Refusal>) -> u64
+    ensures { result ≡ number_of answer + 256 * of_accepted bit answer }
 {
     match answer {
-        ForDistance::Written => 256,
-        ForDistance::NoMask => 0,
-        ForDistance::BadLength => 1,
-        ForDistance::BadCount => 16,
-        ForDistance::NothingWanted => 17,
-        ForDistance::ShortBuffer => 11,
+        Ok(written) => 256 * written as u64,
+        Err(refusal) => refusal.number() as u64,
     }
 }
 
@@ -126,14 +142,14 @@ pub fn ruznavo_mask_for_distance(n: usize, k: usize, d: usize, mask: &mut [u8]) 
     distance_answer(mask_for_distance(n, k, d, mask))
 }
 
-// The number of a case + 256 × (its t or the number of attempts made) + 2 ^ 40 × (1 for a match).
-fn flip_answer(answer: FlipDecoded) -> u64
-    ensures { result ≡ flips.answer_number answer + 256 * flips.answer_attempts answer + 2 ^ 40 * flips.answer_matched answer }
+// The number of an answer + 256 × (its t or the number of attempts made) + 2 ^ 40 × (1 for a match).
+fn flip_answer(answer: Result<Attempted, Refusal>) -> u64
+    ensures { result ≡ number_of answer + 256 * flips.answer_attempts answer + 2 ^ 40 * flips.answer_matched answer }
 {
     match answer {
-        FlipDecoded::Matched(t) => 256 * t as u64 + 1099511627776,
-        FlipDecoded::Unmatched(made) => 256 * made as u64,
-        FlipDecoded::Refused(number) => number as u64,
+        Ok(Attempted::Matched(t)) => 256 * t as u64 + 1099511627776,
+        Ok(Attempted::Unmatched(made)) => 256 * made as u64,
+        Err(refused) => refused.number() as u64,
     }
 }
 
@@ -157,13 +173,15 @@ pub fn ruznavo_mask_by_erasure(n: usize, k: usize, z: f64, mask: &mut [u8]) -> u
     ensures value { result ≡ erasure_number n k z (length mask.old) }
     ensures mask_after { mask.new ≡ erasure_mask_after n k z mask.old }
 {
-    mask_by_erasure(n, k, z, mask) as u64
+    number(mask_by_erasure(n, k, z, mask))
 }
 
 // A capture replayed: the text of its totals goes to the front of out. The answer is the number + 256 × the length of the text.
 pub fn ruznavo_replay(capture: &[u8], out: &mut [u8]) -> u64
     ensures { ReplayAnswer capture.now out.old out.new result }
 {
-    let r = replay_totals(capture, out);
-    r.number as u64 + 256 * r.length as u64
+    match replay_totals(capture, out) {
+        Ok(length) => 256 * length as u64,
+        Err(reason) => reason.number() as u64,
+    }
 }

@@ -6,10 +6,8 @@ ghost use Rattle.model.specs.Refusals.{samples_number, samples_llrs, encode_numb
 ghost use Rattle.model.specs.Masks.{weight_number, weight_mask_after};
 ghost use Rattle.model.specs.Distance.{distance_mask_after};
 ghost use Rattle.model.specs.Erasure.{erasure_number, erasure_mask_after};
-ghost use Rattle.masks.specs.Answers.{answer_number, answer_found};
 ghost use Rattle.transform.specs.Calls.{transform_number, transform_bytes};
 ghost use Rattle.decode.specs.Calls.{lent, given};
-ghost use Rattle.scan_flip.specs.Answers as flips;
 ghost use Rattle.scan_flip.specs.Calls.{flip_call};
 ghost use Rattle.ruznavo.specs.Answers.{CheckAnswer, PlanAnswer, host_counts, DecodeAnswer, DistanceAnswer, FlipAnswer, ReplayAnswer};
 

@@ -7,7 +7,7 @@ use Prim.Native.Nat.{ℕ, zero, suc, ◌+◌, ◌-◌, ◌*◌, ◌/◌, ◌%◌
 use native.Mathlib.Nat.{le_trans, le_of_eq, le_of_lt, le_antisymm, le_of_suc-le-suc, lt_of_lt_of_le, lt_of_le_of_lt, lt_of_not-le, not-le_of_lt, zero-lt-suc, mul_comm, mul_assoc, mul_left_comm, mul_right_comm, mul-one, mul-pos, mul-sub, mul-le-mul_right, mul-lt-mul_of_pos_right, mul-div_cancel, mul-mod_left, div-lt_iff_lt-mul, le-div_iff_mul-le, div-add-mod', mod-lt, add-mul, suc-mul}
 use native.Mathlib.Numerals.{add-one}
 use native.Mathlib.Omega.{arith}
-use lib.IntN.{ℤ, pos, negsuc, neg_ℤ, ◌-ℤ◌, +ℤ_idl}
+use lib.IntN.{ℤ, pos, negsuc, neg_ℤ}
 use lib.Dec.{T, is_le, compare_is_eq, leb, ltb, eqb, nleb→lt, eqb→eq, le→leb, lt→ltb, lit<, lit≤}
 use lib.Pow.{pow-add, pow_pos, pow_mono}
 use lib.Ieee.{Float, nan, inf, fin, binary32, up, down, nearest, add, sub, neg, round, lt, size, to_signed, in_signed}
@@ -23,9 +23,6 @@ use Rattle.model.specs.Samples.{nearest_whole, to_llr}
 use Rattle.samples.proofs.Values.{add_at, sub_at, lt_yes, lt_no}
 use Rattle.samples.specs.Cases.{Zero, Top, above_zero, under_top, size_of, whole_of}
 use lib.Signed.{mag}
-use mir.Syntax.{w32}
-use mir.Val.{SFits, to_z, of_z}
-use mir.ValLaws.{to_z_pos, to_z-of_z}
 
 -- ---- a fraction A / D, rounded to the nearest whole number with a tie to the even one, is the one with a half going up or one less
 one_up : (w s D : ℕ) (o : Ordering) → D ≤ s * 2 → 2 * (nearest w o * D) ≤ 2 * (w * D + s) + D
@@ -416,15 +413,6 @@ mag-signed top true (suc n) h = less n top h
   where
     less : (n t : ℕ) → suc n < t → n < t
     less n t h = omega arith
-
-minus_is : (n : ℕ) → n < 2 ^ 31 → pos 0 -ℤ to_z w32 n ≡ signed true n
-minus_is n h = ap (λ (z : ℤ). pos 0 -ℤ z) (to_z_pos w32 n h) ∙ +ℤ_idl (neg_ℤ (pos n))
-
-pub minus-fits : (n : ℕ) → n < 2 ^ 31 → SFits w32 (pos 0 -ℤ to_z w32 n)
-minus-fits n h = record { sfits = subst (λ (z : ℤ). mag z < 2 ^ 31) (sym (minus_is n h)) (mag-signed (2 ^ 31) true n h) }
-
-pub minus-back : (n : ℕ) → n < 2 ^ 31 → to_z w32 (of_z w32 (pos 0 -ℤ to_z w32 n)) ≡ signed true n
-minus-back n h = to_z-of_z w32 (pos 0 -ℤ to_z w32 n) (minus-fits n h) ∙ minus_is n h
 
 pub size_is : (d : Float) (b : Bool) → lt d Zero ≡ b → size_of d ≡ cond b (neg d) d
 unfolding size_of

@@ -1,4 +1,4 @@
--- What each case of `Position` stands for in document 01, and what the steps of the conversion and the tests of the samples give. Assumes nothing.
+-- What each case of `Position` stands for in the model, and what the steps of the conversion and the tests of the samples give. Assumes nothing.
 use Rattle.std.specs.Prelude.{ℕ, min, ◌*◌, Bool, true, false, cond, ◌&&◌, List, [], ◌∷◌, map, ℤ, pos, Float}
 use Rattle.std.specs.Float.{nan, inf, fin}
 use Rattle.std.specs.Float.Ieee.{up, down, lt, neg}

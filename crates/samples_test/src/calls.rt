@@ -1,6 +1,7 @@
 // The call under test, on the first elements of buffers.
 use samples::Channel;
 use test_tools::buffers::{Bytes, bytes, floats, lent_shorts};
+use test_tools::numbers::number_of;
 
 // What an output buffer holds before a call; no LLR is this low.
 pub const FILLER: i16 = -32768;
@@ -29,7 +30,7 @@ pub fn convert(
         lent_shorts(&mut llrs, room),
     );
     Answer {
-        number: answer,
+        number: number_of(&answer),
         llrs,
     }
 }

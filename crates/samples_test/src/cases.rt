@@ -5,7 +5,7 @@ use crate::calls::{Answer, FILLER, convert};
 use crate::vectors::{Vector, count, field, position, read_vector, vector_at};
 use samples::Channel;
 use test_tools::buffers::{Bytes, with_byte};
-use test_tools::numbers::{both, is_length, length_of};
+use test_tools::numbers::{is_length, length_of};
 
 // The input of a call on n vectors and the buffer that it leaves.
 #[derive(Drop)]
@@ -22,14 +22,11 @@ fn load(file: &[u8], first: usize, n: usize) -> Input
     let mut samples = [0.0f32; 2056];
     let mut marks = [0u8; 4112];
     let mut llrs = [FILLER; 2056];
-    let mut i = 0;
-    while i < n {
+    for i in 0..n {
         let v = vector_at(file, first + i);
-        let llr = v.llr;
         samples[i] = v.sample;
         marks[i] = v.mark;
-        llrs[i] = llr;
-        i += 1;
+        llrs[i] = v.llr;
     }
     Input {
         samples,
@@ -38,21 +35,9 @@ fn load(file: &[u8], first: usize, n: usize) -> Input
     }
 }
 
-fn same_llrs(a: [i16; 2056], b: [i16; 2056]) -> bool {
-    let mut i = 0;
-    while i < 2056 {
-        if a[i] != b[i] {
-            return false;
-        }
-        i += 1;
-    }
-    true
-}
-
 // Whether a call has its number and left the buffer as wanted.
 fn is_answer(got: Answer, number: u32, want: [i16; 2056]) -> bool {
-    let llrs = got.llrs;
-    both(got.number == number, same_llrs(llrs, want))
+    got.number == number && got.llrs == want
 }
 
 // Call i on 2 ^ stage vectors, with room for up to three LLRs more.

@@ -54,10 +54,8 @@ fn count_of(group: usize) -> usize
 fn report_group(rt: &impl Print, file: &[u8], group: usize) -> io::Result<()> {
     let count = count_of(group);
     let mut sum = 0;
-    let mut i = 0;
-    while i < count {
+    for i in 0..count {
         sum += one_if(shown(rt, right(file, group, i), group, i)?);
-        i += 1;
     }
     report(
         rt,
@@ -69,10 +67,8 @@ fn report_group(rt: &impl Print, file: &[u8], group: usize) -> io::Result<()> {
 }
 
 fn report_all(rt: &impl Print, file: &[u8]) -> io::Result<()> {
-    let mut group = 0;
-    while group < 14 {
+    for group in 0..14 {
         report_group(rt, file, group)?;
-        group += 1;
     }
     Ok(())
 }

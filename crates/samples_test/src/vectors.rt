@@ -7,24 +7,13 @@ use samples::{Channel, Position};
 use test_tools::buffers::byte_at;
 use test_tools::texts::{number, part};
 
-// The float of a bit pattern whose exponent field is all ones: an infinity or a NaN.
-fn not_finite(bits: u32) -> f32 {
-    let infinity = 1.0f32 / 0.0;
-    if bits % 8388608 != 0 {
-        infinity - infinity
-    } else if bits < 2147483648 {
-        infinity
-    } else {
-        -infinity
-    }
-}
-
-// The float of a bit pattern.
+// The float of a bit pattern. Above the pattern of infinity, but for the sign, all are NaN's. erasure_test has the same for `f64`, whose
+// `from_bits` is another function: one for both would take that and the two sizes.
 fn float(bits: u32) -> f32 {
-    if bits % 2147483648 / 8388608 == 255 {
-        not_finite(bits)
-    } else {
+    if bits % 0x8000_0000 <= 0x7f80_0000 {
         f32::from_bits(bits)
+    } else {
+        f32::NAN
     }
 }
 

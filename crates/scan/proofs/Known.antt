@@ -16,8 +16,23 @@ use Rattle.model.specs.Encoding.{frozen_to_zero}
 use Rattle.model.proofs.Lists.{get_d_tabulate}
 use Rattle.model.proofs.PlannedWalk.{message-put}
 use Rattle.model.proofs.FlippedWalk.{put_column, plain-cut}
-use Rattle.kinds.specs.Known.{FixedAs}
+use Rattle.std.specs.Prelude as std
+use Rattle.std.specs.Prelude.{Some, None}
+use Rattle.kinds.specs.declared.FixedMessage.{FixedMessage}
+use Rattle.kinds.specs.declared.FixedMessage.TheVariants.{Certain, Zero}
+use Rattle.kinds.specs.Known.{FixedAs, is_certain, is_zero}
 use Rattle.scan.specs.Space.{constant}
+
+-- what the code finds: one of the two, or neither
+pub fixed-some : {r : std.Option FixedMessage} (k : FixedMessage) → r ≡ Some k → (is_certain r || is_zero r) ≡ true
+fixed-some k e = rw e (go k)
+  where
+    go : (k : FixedMessage) → (is_certain (Some k) || is_zero (Some k)) ≡ true
+    go Certain = refl
+    go Zero = refl
+
+pub fixed-none : {r : std.Option FixedMessage} → r ≡ None → (is_certain r || is_zero r) ≡ false
+fixed-none e = rw e
 
 pub both_true : (a b : Bool) → (a && b) ≡ true → (a ≡ true) × (b ≡ true)
 both_true true b e = (refl, e)

@@ -141,14 +141,6 @@ module _ (plan mask : List ℕ) (N t : ℕ) (w : List ℤ) where
       subst (λ (n : ℕ). SoFar plan mask N t w n z) (sym (add-one (suc k)))
       (subst (λ (n : ℕ). Swept plan mask N t true n w z) (add-one (suc k)) (swept_more s (subst (λ (f : Bool). Swept plan mask N t f 1 v z) (later k) q)))
 
-  pub so_far_done : (k : ℕ) (v : List ℤ) → 0 < k → SoFar plan mask N t w k v → Swept plan mask N t true k w v
-  so_far_done zero v h s = absurd (omega arith)
-  so_far_done (suc k) v h s = s
-
-  pub so_far_long : (k : ℕ) (v : List ℤ) → SoFar plan mask N t w k v → length v ≡ length w
-  so_far_long zero v s = ap length s
-  so_far_long (suc k) v s = s.long
-
 -- a list made of another's places
 pub tabulate_map : {A B : Type 0} (f : A → B) (l : List A) (d : A) → tabulate (length l) (λ k. f (get_or l k d)) ≡ map f l
 unfolding tabulate

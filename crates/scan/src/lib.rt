@@ -2,13 +2,14 @@
 // negated before it and soft values after it.
 #![tactic(auto)]
 
-ghost use Rattle.std.specs.Prelude.{◌≡◌, ◌+◌, ◌*◌, ◌^◌, ◌≤◌, ◌<◌, T, length, pos, neg_ℤ, map, true, false, cond, not, ◌||◌};
+ghost use Rattle.std.specs.Prelude.{◌≡◌, ◌+◌, ◌*◌, ◌^◌, ◌≤◌, ◌<◌, T, length, pos, neg_ℤ, map, true, false, cond, not, ◌||◌, Some};
 ghost use Rattle.model.specs.Soft.{finite, mark};
 ghost use Rattle.model.specs.Lists.{part, at_most, on_ones};
 ghost use Rattle.model.specs.Scan.{scan};
 ghost use Rattle.model.specs.Encoding.{is_unfrozen, known_word};
 ghost use Rattle.model.specs.Kinds.{kind_of};
 ghost use Rattle.model.specs.Plans.{is_cut};
+ghost use Rattle.kinds.specs.Known.{is_certain, is_zero};
 ghost use Rattle.messages.specs.Cut.{cut_words};
 ghost use Rattle.words.specs.Words.{word, stored, write, Holds, Words};
 ghost use Rattle.halves.specs.Halves.{Places, Combinable, RightListAt, node_words};
@@ -20,28 +21,34 @@ use combine::{message_left_certain, message_of_leaves, message_right_zero, node_
 use flips::{copy_flipped, known_word, load_flipped};
 use halves::{left_list, right_list};
 use inputs::UNFROZEN;
-use kinds::{Fixed, cut_kind, fixed_message, is_fixed};
+use kinds::{FixedMessage, cut_kind, fixed_message};
 use messages::{cut_message, rate_one_message, rate_zero_message};
 use words::{MARK, copy_words, fill, load_llrs};
 
 // The message of a child whose message is fixed, at m: ∞ or 0 everywhere.
-fn fixed_child(w: &mut [i32], child: Fixed, m: usize, s: usize)
+fn fixed_child(w: &mut [i32], message: FixedMessage, m: usize, s: usize)
     requires { m + s ≤ length w.old }
-    ensures { w.new ≡ write w.old m s (λ k. cond child.certain (pos mark) (pos 0)) }
+    ensures { w.new ≡ write w.old m s (λ k. cond (is_certain (Some message)) (pos mark) (pos 0)) }
 {
-    if child.certain {
-        rate_zero_message(w, m, s);
-    } else {
-        rate_one_message(w, m, s);
+    match message {
+        FixedMessage::Certain => rate_zero_message(w, m, s),
+        FixedMessage::Zero => rate_one_message(w, m, s),
     }
+}
+
+// Whether a child's message is ∞ everywhere whatever it is handed.
+fn is_certain(child: Option<FixedMessage>) -> bool
+    ensures { result ≡ is_certain child }
+{
+    matches!(child, Some(FixedMessage::Certain))
 }
 
 // The node's message, at m: its incoming list is at x, its children's messages at l and l + h. The right child's incoming list is still at c, unless
 // that child's message is fixed.
 fn own_message(
     w: &mut [i32],
-    left: Fixed,
-    right: Fixed,
+    left: Option<FixedMessage>,
+    right: Option<FixedMessage>,
     m: usize,
     x: usize,
     l: usize,
@@ -50,30 +57,35 @@ fn own_message(
 )
     requires places { Places m x l h c × (c + h ≤ length w.old) }
     requires combinable { Combinable w.old x l h }
-    requires holds { left.certain ≡ true → Holds w.old l h (λ k. pos mark) }
-    requires holds_2 { right.zero ≡ true → Holds w.old (l + h) h (λ k. pos 0) }
-    requires right_list_at { (right.certain || right.zero) ≡ false → RightListAt w.old x l c h }
+    requires holds { is_certain left ≡ true → Holds w.old l h (λ k. pos mark) }
+    requires holds_2 { is_zero right ≡ true → Holds w.old (l + h) h (λ k. pos 0) }
+    requires right_list_at { (is_certain right || is_zero right) ≡ false → RightListAt w.old x l c h }
     ensures { w.new ≡ node_words w.old m x l h }
 {
-    if left.certain {
-        message_left_certain(w, m, x, l, h);
-    } else if right.zero {
-        message_right_zero(w, m, x, l, h);
-    } else if right.certain {
-        node_message(w, m, x, l, h);
-    } else {
-        message_by_list(w, m, x, l, c, h);
+    match (left, right) {
+        (Some(FixedMessage::Certain), _) => message_left_certain(w, m, x, l, h),
+        (_, Some(FixedMessage::Zero)) => message_right_zero(w, m, x, l, h),
+        (_, Some(FixedMessage::Certain)) => node_message(w, m, x, l, h),
+        (_, None) => message_by_list(w, m, x, l, c, h),
     }
 }
 
+// What a walk goes by: the plan, the mask, and its length (N in the specs).
+#[derive(Clone, Copy)]
+struct Walk<'a> {
+    plan: &'a [u8],
+    mask: &'a [u8],
+    len: usize,
+}
+
 // The message of a cut node, at m: its `size` positions are those from `from` on, and its incoming list is at x.
-fn cut_node(work: &mut [i32], mask: &[u8], m: usize, x: usize, from: usize, size: usize)
-    requires { CutNode mask.now m x from size work.old }
-    ensures { work.new ≡ cut_words (kind_of size (part mask.now from size)) work.old m x size }
+fn cut_node(work: &mut [i32], walk: &Walk<'_>, m: usize, x: usize, from: usize, size: usize)
+    requires { CutNode walk.now.mask.now m x from size work.old }
+    ensures { work.new ≡ cut_words (kind_of size (part walk.now.mask.now from size)) work.old m x size }
 {
     let end = from + size;
-    let k = cut_kind(&mask[from..end]);
-    cut_message(work, k, m, x, size);
+    let k = cut_kind(&walk.mask[from..end]);
+    cut_message(work, Some(k), m, x, size);
 }
 
 // Whether a position is frozen, whatever to.
@@ -92,26 +104,24 @@ fn leaf_word(frozen: bool) -> i32
 
 // The messages of an uncut node of two positions, at m, and of its leaves, each at its own position: the first one is `from`, and the node's incoming list
 // is at x.
-fn leaf_pair(work: &mut [i32], mask: &[u8], m: usize, x: usize, from: usize)
-    requires places { Places m x from 1 (length work.old) × (from + 2 ≤ length mask.now) }
+fn leaf_pair(work: &mut [i32], walk: &Walk<'_>, m: usize, x: usize, from: usize)
+    requires places { Places m x from 1 (length work.old) × (from + 2 ≤ length walk.now.mask.now) }
     requires words { Words work.old x 2 }
-    ensures { work.new ≡ pair_words mask.now work.old m x from }
+    ensures { work.new ≡ pair_words walk.now.mask.now work.old m x from }
 {
-    let left = is_frozen(mask[from]);
-    let right = is_frozen(mask[from + 1]);
+    let left = is_frozen(walk.mask[from]);
+    let right = is_frozen(walk.mask[from + 1]);
     fill(work, from, 1, leaf_word(left));
     fill(work, from + 1, 1, leaf_word(right));
     message_of_leaves(work, left, right, m, x, from);
 }
 
 // Visits an uncut node: its number is `node`, its stage `stage`, its `size` positions are those from `from` on, and its incoming list is at `list`. The
-// mask has `len` positions (N in the specs), and the message of stage u at position i is at u * N + i. In the first sweep no stored message is read before
+// mask has N positions, and the message of stage u at position i is at u * N + i. In the first sweep no stored message is read before
 // it is written. Messages of the node and of its children are at m, l and r; a child's incoming list is made at c. A cut child takes no visit.
 fn visit(
     work: &mut [i32],
-    plan: &[u8],
-    mask: &[u8],
-    len: usize,
+    walk: &Walk<'_>,
     stage: usize,
     size: usize,
     node: usize,
@@ -119,41 +129,43 @@ fn visit(
     list: usize,
     first: bool,
 )
-    requires { Room plan.now mask.now len stage size node from list first work.old × (is_cut plan.now node ≡ false) }
-    ensures { Visited plan.now mask.now len stage node from list first work.old work.new }
+    requires { Room walk.now.plan.now walk.now.mask.now walk.now.len stage size node from list first work.old × (is_cut walk.now.plan.now node ≡ false) }
+    ensures { Visited walk.now.plan.now walk.now.mask.now walk.now.len stage node from list first work.old work.new }
 {
-    let m = stage * len + from;
+    let m = stage * walk.len + from;
     let h = size / 2;
     let below = stage - 1;
-    let l = below * len + from;
+    let l = below * walk.len + from;
     let r = l + h;
     let c = list + size;
     let child = 2 * node;
     let middle = from + h;
-    let left = fixed_message(plan, mask, child, from, h);
-    if is_fixed(left) {
-        fixed_child(work, left, l, h);
-    } else {
-        left_list(work, first, c, list, r, h);
-        if plan[child] == 1 {
-            cut_node(work, mask, l, c, from, h);
-        } else if h == 2 {
-            leaf_pair(work, mask, l, c, from);
-        } else {
-            visit(work, plan, mask, len, below, h, child, from, c, first);
+    let left = fixed_message(walk.plan, walk.mask, child, from, h);
+    match left {
+        Some(message) => fixed_child(work, message, l, h),
+        None => {
+            left_list(work, first, c, list, r, h);
+            if walk.plan[child] == 1 {
+                cut_node(work, walk, l, c, from, h);
+            } else if h == 2 {
+                leaf_pair(work, walk, l, c, from);
+            } else {
+                visit(work, walk, below, h, child, from, c, first);
+            }
         }
     }
-    let right = fixed_message(plan, mask, child + 1, middle, h);
-    if is_fixed(right) {
-        fixed_child(work, right, r, h);
-    } else {
-        right_list(work, left.certain, c, list, l, h);
-        if plan[child + 1] == 1 {
-            cut_node(work, mask, r, c, middle, h);
-        } else if h == 2 {
-            leaf_pair(work, mask, r, c, middle);
-        } else {
-            visit(work, plan, mask, len, below, h, child + 1, middle, c, first);
+    let right = fixed_message(walk.plan, walk.mask, child + 1, middle, h);
+    match right {
+        Some(message) => fixed_child(work, message, r, h),
+        None => {
+            right_list(work, is_certain(left), c, list, l, h);
+            if walk.plan[child + 1] == 1 {
+                cut_node(work, walk, r, c, middle, h);
+            } else if h == 2 {
+                leaf_pair(work, walk, r, c, middle);
+            } else {
+                visit(work, walk, below, h, child + 1, middle, c, first);
+            }
         }
     }
     own_message(work, left, right, m, list, l, c, h);
@@ -166,10 +178,11 @@ pub fn sweep(work: &mut [i32], plan: &[u8], mask: &[u8], len: usize, stage: usiz
     ensures { Swept plan.now mask.now len stage first 1 work.old work.new }
 {
     let list = len * (stage + 1);
+    let walk = Walk { plan, mask, len };
     if plan[1] == 1 {
-        cut_node(work, mask, stage * len, list, 0, len);
+        cut_node(work, &walk, stage * len, list, 0, len);
     } else {
-        visit(work, plan, mask, len, stage, len, 1, 0, list, first);
+        visit(work, &walk, stage, len, 1, 0, list, first);
     }
 }
 
@@ -179,11 +192,9 @@ pub fn sweeps(work: &mut [i32], plan: &[u8], mask: &[u8], len: usize, stage: usi
     requires count_nonzero { 0 < count }
     ensures { Swept plan.now mask.now len stage true count work.old work.new }
 {
-    let mut k: usize = 0;
-    while k < count {
+    for k in 0..count {
         let first = k == 0;
         sweep(work, plan, mask, len, stage, first);
-        k += 1;
     }
 }
 

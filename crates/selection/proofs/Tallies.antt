@@ -1,13 +1,13 @@
 -- How many elements of a list pass a test, and the list of those. Assumes nothing.
-use mathlib.Core.Path.{◌≡◌, refl, sym, ap, ap₂, ◌∙◌, subst}
+use mathlib.Core.Path.{◌≡◌, refl, sym, ap, ap₂, ◌∙◌}
 use mathlib.Core.Bool.{Bool, true, false, cond}
 use mathlib.Core.List.{List, [], ◌∷◌, ◌++◌, append-nil}
-use Prim.Native.Nat.{ℕ, zero, suc, ◌+◌, ◌-◌, ◌≤◌, ◌<◌}
+use Prim.Native.Nat.{ℕ, zero, suc, ◌+◌, ◌≤◌, ◌<◌}
 use native.Mathlib.Nat.{le_refl, le_of_suc-le-suc, not-suc-le-zero}
 use native.Mathlib.Numerals.{add-one}
 use native.Mathlib.Omega.{arith}
 use lib.ListN.{length, get_or, take, drop, set, length-set}
-use lib.Seq.{take-suc, take-add, take-suc-set, take-set-le, drop-set-lt, drop-drop}
+use lib.Seq.{take-suc, take-suc-set, take-set-le, drop-set-lt, drop-drop}
 use Rattle.model.specs.Lists.{bit}
 use Rattle.model.proofs.Lists.{bit-small, first-left}
 use Rattle.selection.specs.Places.{tally, kept, Each}
@@ -46,14 +46,6 @@ module _ {A : Type 0} where
     unfolding tally
     tally-most [] = le_refl 0
     tally-most (x ∷ l) = omega (arith, bit-small (f x), tally-most l)
-
-    pub tally_rises : (l : List A) (i j : ℕ) → i ≤ j → tally f (take i l) ≤ tally f (take j l)
-    tally_rises l i j h =
-        subst (λ (n : ℕ). tally f (take i l) ≤ tally f (take n l)) (back h)
-        (rw (take-add i (j - i) l) (rw (tally_append (take i l) (take (j - i) (drop i l))) (omega arith)))
-      where
-        back : i ≤ j → i + (j - i) ≡ j
-        back h = omega arith
 
     -- an element that fails is not counted
     pub tally-fewer : (l : List A) (i : ℕ) (d : A) → i < length l → f (get_or l i d) ≡ false → tally f l < length l

@@ -6,8 +6,6 @@ ghost use Rattle.std.specs.Float.Ieee.{eq};
 ghost use Rattle.model.specs.Erasure.{Probability};
 ghost use Rattle.selection.specs.Places.{tally, beyond, Each, value_at, InFront, AtPlace};
 
-use inputs::both;
-
 // Whether x is above p, or below it.
 fn is_beyond(x: f64, p: f64, above: bool) -> bool
     ensures { result ≡ beyond above p x }
@@ -15,16 +13,15 @@ fn is_beyond(x: f64, p: f64, above: bool) -> bool
     if above { p < x } else { x < p }
 }
 
-// How many of the first `len` values are above p, or below it.
+// How many of the first `len` values are above p, or below it. Each test adds 0 or 1, with no branch; `filter` and `count`, tried,
+// take a mask a quarter longer.
 pub fn count_beyond(values: &[f64], len: usize, p: f64, above: bool) -> usize
     requires { len ≤ length values.now }
     ensures { result ≡ tally (beyond above p) (take len values.now) }
 {
-    let mut found: usize = 0;
-    let mut j = 0;
-    while j < len {
-        found += is_beyond(values[j], p, above) as usize;
-        j += 1;
+    let mut found = 0;
+    for x in &values[..len] {
+        found += is_beyond(*x, p, above) as usize;
     }
     found
 }
@@ -34,19 +31,18 @@ fn keep_beyond(values: &mut [f64], len: usize, p: f64, above: bool) -> usize
     requires { len ≤ length values.old }
     ensures { InFront above p len values.old values.new result }
 {
-    let mut moved: usize = 0;
-    let mut j = 0;
-    while j < len {
+    let mut moved = 0;
+    for j in 0..len {
         let x = values[j];
         values[moved] = x;
         moved += is_beyond(x, p, above) as usize;
-        j += 1;
     }
     moved
 }
 
 // The value at place m, counted from 0, in falling order of the first `size` values. Of those the ones above the value in the middle
-// are kept, or the ones below it, by the side on which the place lies, and so on; the others are lost.
+// are kept, or the ones below it, by the side on which the place lies, and so on; the others are lost. The loop counts no index: it
+// goes on with fewer values each turn.
 pub fn select(values: &mut [f64], size: usize, m: usize) -> f64
     requires { (m < size) × (size ≤ length values.old) × Each Probability (take size values.old) }
     ensures { AtPlace (take size values.old) m result }
@@ -74,14 +70,14 @@ pub fn position_of(values: &[f64], size: usize, t: f64, before: usize) -> usize
     ensures upper_bound { (result < size) × (tally (λ x. eq x t) (take result values.now) ≡ before) }
     ensures t_value { eq (value_at values.now result) t ≡ true }
 {
-    let mut seen: usize = 0;
-    let mut i = 0;
-    loop {
-        let tie = values[i] == t;
-        if both(tie, seen == before) {
-            return i;
+    let mut seen = 0;
+    for (i, x) in values[..size].iter().enumerate() {
+        if *x == t {
+            if seen == before {
+                return i;
+            }
+            seen += 1;
         }
-        seen += tie as usize;
-        i += 1;
     }
+    unreachable!()
 }

@@ -1,3 +1,4 @@
+pub mod Accepted
 pub mod Outcomes
 pub mod Words
 pub mod Orders

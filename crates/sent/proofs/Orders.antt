@@ -1,19 +1,12 @@
--- What the tests that come first, and two tests together, say. Assumes nothing.
+-- What the tests that come first say. Assumes nothing.
 use mathlib.Core.Path.{◌≡◌, refl}
-use mathlib.Core.Bool.{Bool, true, false, cond, not, ◌&&◌}
+use mathlib.Core.Bool.{Bool, true, false, cond, not}
 use mathlib.Core.List.{List, [], ◌∷◌}
 use Prim.Native.Nat.{ℕ}
 use native.Mathlib.Omega.{arith}
 use lib.Dec.{eqb}
 use Rattle.model.specs.Refusals.{Test, exponent, refusal, row_1}
 use Rattle.model.specs.Sent.{is_order, order_number}
-use Rattle.model.proofs.Lists.{absurd_bool}
-
-pub not-not : (b : Bool) → not (not b) ≡ b
-not-not true = refl
-not-not false = refl
-
--- ---- the tests that come first
 
 -- the number by the order's test, row 1's and what comes after them
 abbrev number_by : Bool → Bool → ℕ → ℕ
@@ -37,12 +30,3 @@ module _ (order N : ℕ) where
       go : (a : Bool) (k : ℕ) → cond a k 21 ≡ 0 → a ≡ true
       go true k e = refl
       go false k e = absurd (omega (arith, e))
-
--- ---- two tests together
-pub first : (a b : Bool) → (a && b) ≡ true → a ≡ true
-first true b e = refl
-first false b e = e
-
-pub second : (a b : Bool) → (a && b) ≡ true → b ≡ true
-second true b e = e
-second false b e = absurd (absurd_bool false e refl)

@@ -2,41 +2,35 @@
 use mathlib.Core.Path.{◌≡◌, refl, sym, ◌∙◌, ap, ap₂, subst}
 use mathlib.Core.Bool.{Bool, true, false, cond, ◌&&◌}
 use mathlib.Core.List.{List, [], ◌∷◌, ◌++◌, map, append_assoc}
-use Prim.Native.Nat.{ℕ, zero, suc, ◌^◌, ◌≤◌, min}
+use Prim.Native.Nat.{ℕ, ◌^◌, ◌≤◌, min}
 use native.Mathlib.Omega.{arith}
 use borrow.Author.Tests.{eq-eqb, leb-true, le-leb}
-use lib.Dec.{eqb, leb, leb→le, eqb-suc-zero}
-use lib.Seq.{take_at}
+use lib.Dec.{eqb, leb, leb→le}
+use lib.Seq.{take_at, length-take-le}
 use lib.IntN.{ℤ, pos}
-use lib.ListN.{length, take, drop, length-map}
+use lib.ListN.{length, take, drop, replicate, length-map, length-append, length-replicate}
 use Rattle.model.specs.Lists.{over}
 use Rattle.model.specs.Soft.{finite, soft_zero, word_of}
 use Rattle.model.specs.Scan.{Decoded, decode_scan}
 use Rattle.model.specs.Refusals.{exponent, accepted, DecodeCall, with_llrs, refusal, row_1, decode_number, decode_answer, decode_cycles, decode_check, decode_undecided, decode_soft, decode_hard, decode_payload, decode_work}
 use Rattle.model.specs.Sent.{reordered, is_order, order_number, in_order, as_sent, decode_number_in, decode_answer_in, decode_cycles_in, decode_check_in, decode_undecided_in, decode_soft_in, decode_hard_in, decode_payload_in, decode_work_in}
-use Rattle.model.proofs.Lists.{absurd_bool, true-T, take-over, drop-over}
+use Rattle.model.proofs.Lists.{absurd_bool, true-T, take-over}
 use Rattle.model.proofs.Refusals.{passes, exponent-power, length-small}
 use Rattle.model.proofs.Calls.{length-softs, length-hards, accepted-size, accepted-stage, accepted-values}
 use Rattle.model.proofs.SentCalls.{same_test, number_in, cycles_in, number-reordered}
 use Rattle.model.proofs.Reordering.{length-reordered, in_order-map, in_order-few}
+use Rattle.inputs.specs.declared.Refusal.{Refusal}
+use Rattle.inputs.specs.Numbers.{refusal_number}
+use Rattle.inputs.proofs.Rows.{refusal_not_zero}
 use Rattle.decode.specs.Calls.{Lent, lent, Given, given, call_of, Outcome}
 use Rattle.sent.specs.Calls.{OutcomeIn}
 use Rattle.sent.proofs.Orders.{first_fails}
-
--- a result of an accepted call
-pub same-accepted : {A : Type 0} (k : ℕ) (x y o : A) → (k ≡ 0 → x ≡ y) → accepted k x o ≡ accepted k y o
-same-accepted zero x y o e = e refl
-same-accepted (suc k) x y o e = rw (eqb-suc-zero k)
-
--- a refused call's
-pub not-accepted : {A : Type 0} (k : ℕ) (x o : A) → (k ≡ 0 → ⊥) → o ≡ accepted k x o
-not-accepted zero x o h = absurd (h refl)
-not-accepted (suc k) x o h = rw (eqb-suc-zero k)
+use Rattle.sent.proofs.Accepted.{same-accepted, not-accepted, front-moved}
 
 -- ---- one of the first tests failed
-pub first-refused : (order : ℕ) (g : Given) (r : ℕ) → r ≡ order_number order (refusal (row_1 (length g.mask) ∷ [])) → (r ≡ 0 → ⊥) → OutcomeIn order g g.buffers r 0 0 0
+pub first-refused : (order : ℕ) (g : Given) (r : Refusal) → refusal_number r ≡ order_number order (refusal (row_1 (length g.mask) ∷ [])) → OutcomeIn order g g.buffers (refusal_number r) 0 0 0
 unfolding order_number decode_number_in decode_number decode_cycles_in decode_cycles decode_check_in decode_undecided_in decode_soft_in decode_hard_in decode_payload_in decode_work_in decode_work
-first-refused order g r is ne =
+first-refused order g r is =
     record {
       number_is = e;
       cycles-is = under _ 0;
@@ -50,11 +44,11 @@ first-refused order g r is ne =
       };
     }
   where
-    e : r ≡ decode_number_in order (call_of g)
-    e = is ∙ first_fails order (length g.mask) _ (λ z. ne (is ∙ z))
+    e : refusal_number r ≡ decode_number_in order (call_of g)
+    e = is ∙ first_fails order (length g.mask) _ (λ z. refusal_not_zero r (is ∙ z))
 
     no : decode_number_in order (call_of g) ≡ 0 → ⊥
-    no z = ne (e ∙ z)
+    no z = refusal_not_zero r (e ∙ z)
 
     -- what another order leaves without a look at the call's own tests
     under : {A : Type 0} (x o : A) → o ≡ cond (is_order order) (accepted (decode_number (call_of g)) x o) o
@@ -176,14 +170,6 @@ passed_on order g is few {after = after} o =
     own z = sym (number_in order (call_of g) is) ∙ z
 
 -- ---- order 1: the LLRs were reordered, and the soft values made in an array of their own
--- the front of a buffer reordered where it stands
-pub front-moved : {A : Type 0} (d : A) (n size : ℕ) (new old now : List A) → length new ≡ size → size ≡ 2 ^ n → now ≡ over new old
-    → reordered d n (take size now) ++ drop size now ≡ over (reordered d n new) old
-unfolding over
-front-moved {A} d n size new old now long power e =
-    ap₂ (λ (a b : List A). reordered d n a ++ b) (ap (take size) e ∙ take-over new old size long) (ap (drop size) e ∙ drop-over new old size long)
-    ∙ ap (λ (k : ℕ). reordered d n new ++ drop k old) (power ∙ sym (length-reordered d n new))
-
 -- room that is cut at 1024 is the same to the tests
 abbrev with_room : ℕ → DecodeCall → DecodeCall
 with_room R c =
@@ -215,37 +201,59 @@ number_roomed c R is = go (eqb (exponent (length c.mask)) 0) refl
     go true e = rw e
     go false e = rw (same (length-small N (λ z. absurd_bool (eqb (exponent N) 0) (eq-eqb (exponent N) 0 z) e)))
 
-module _ (g : Given) (stage : ℕ) (some : stage ≡ 0 → ⊥) (is : stage ≡ exponent (length g.llrs)) where
+-- N of 4 or more by its exponent
+module _ (llrs : List ℤ) (stage : ℕ) (r : (2 ≤ stage) × (stage ≡ exponent (length llrs))) where
+  some : stage ≡ 0 → ⊥
+  some z = omega (arith, r.0)
+
+  power : length llrs ≡ 2 ^ stage
+  power = (exponent-power (length llrs) (λ z. some (r.1 ∙ z))).0 ∙ ap (λ (m : ℕ). 2 ^ m) (sym r.1)
+
+  pub short : length llrs ≤ 1024
+  short = length-small (length llrs) (λ z. some (r.1 ∙ z))
+
+  pub moves : (2 ≤ stage) × (stage ≤ 10) × (length llrs ≡ 2 ^ stage) × (2 ^ stage ≤ 1024)
+  moves = let e = (exponent-power (length llrs) (λ z. some (r.1 ∙ z))).1 in (r.0, omega (arith, r.1), power, omega (arith, short, power))
+
+  -- the front of the array that they are moved into
+  pub front : (held rest : List ℤ) → held ≡ over (reordered (pos 0) stage llrs) rest → take (length llrs) held ≡ reordered (pos 0) stage llrs
+  front held rest e = ap (take (length llrs)) e ∙ take-over (reordered (pos 0) stage llrs) rest (length llrs) (length-reordered (pos 0) stage llrs ∙ sym power)
+
+  pub front_long : (held rest : List ℤ) → held ≡ over (reordered (pos 0) stage llrs) rest → length llrs ≡ length (take (length llrs) held)
+  front_long held rest e = sym (ap length (front held rest e) ∙ length-reordered (pos 0) stage llrs ∙ sym power)
+
+-- the array for the soft values as it is lent: so many zeros
+abbrev pub zeros : List ℤ
+zeros = replicate 1024 (pos 0)
+
+zeros_long : (room n : ℕ) → room ≡ min n 1024 → length (take room zeros) ≡ room
+zeros_long room n e = let l : length zeros ≡ 1024 = length-replicate 1024 (pos 0) in length-take-le room zeros (omega arith)
+
+module _ (g : Given) (stage : ℕ) (r : (2 ≤ stage) × (stage ≡ exponent (length g.llrs))) where
   abbrev moved : List ℤ
   moved = reordered (pos 0) stage g.llrs
 
-  pub power : length g.llrs ≡ 2 ^ stage
-  power = (exponent-power (length g.llrs) (λ z. some (is ∙ z))).0 ∙ ap (λ (m : ℕ). 2 ^ m) (sym is)
-
-  pub few : stage ≤ 10
-  few = let e = (exponent-power (length g.llrs) (λ z. some (is ∙ z))).1 in omega (arith, is)
-
-  pub short : length g.llrs ≤ 1024
-  short = length-small (length g.llrs) (λ z. some (is ∙ z))
-
   stage_is : decode_number (call_of g) ≡ 0 → stage ≡ exponent (length g.mask)
-  stage_is z = is ∙ ap exponent (as_many g z)
+  stage_is z = r.1 ∙ ap exponent (as_many g z)
 
   moved-llrs : decode_number (call_of g) ≡ 0 → moved ≡ in_order (pos 0) 1 (exponent (length g.mask)) g.llrs
   unfolding in_order
   moved-llrs z = ap (λ (m : ℕ). reordered (pos 0) m g.llrs) (stage_is z)
 
   -- the decoder was called so
-  module _ {after : Lent} {number cycles check undecided : ℕ} (L B : List ℤ) (e : L ≡ moved) (cut : length B ≡ min (length g.buffers.soft) 1024)
-      (o' : Outcome (lent_to L B g) after number cycles check undecided) where
+  module _ {after : Lent} {number cycles check undecided : ℕ} (held rest : List ℤ) (e : held ≡ over moved rest) (room : ℕ) (cut : room ≡ min (length g.buffers.soft) 1024)
+      (o' : Outcome (lent_to (take (length g.llrs) held) (take room zeros) g) after number cycles check undecided) where
+    abbrev B : List ℤ
+    B = take room zeros
+
     abbrev inner : DecodeCall
     inner = call_of (lent_to moved B g)
 
     o : Outcome (lent_to moved B g) after number cycles check undecided
-    o = subst (λ (l : List ℤ). Outcome (lent_to l B g) after number cycles check undecided) e o'
+    o = subst (λ (l : List ℤ). Outcome (lent_to l B g) after number cycles check undecided) (front g.llrs stage r held rest e) o'
 
     moved-number : decode_number inner ≡ decode_number (call_of g)
-    moved-number = number_roomed (with_llrs moved (call_of g)) (length B) cut ∙ number-reordered stage (call_of g) power
+    moved-number = number_roomed (with_llrs moved (call_of g)) (length B) (zeros_long room _ cut ∙ cut) ∙ number-reordered stage (call_of g) (power g.llrs stage r)
 
     -- a refused call's buffers are as they were
     pub moved-refused : (number ≡ 0 → ⊥) → OutcomeIn 1 g (record { soft = g.buffers.soft; hard = after.hard; payload = after.payload; work = after.work }) number cycles check undecided
@@ -265,11 +273,25 @@ module _ (g : Given) (stage : ℕ) (some : stage ≡ 0 → ⊥) (is : stage ≡ 
       call-zero = sym moved-number ∙ inner-zero
 
       -- N is the number of the LLRs, and the buffers have room for it
-      pub room : (length g.llrs ≤ length g.buffers.soft) × (length g.llrs ≤ length g.buffers.hard) × (length g.llrs ≤ length B)
-      room =
+      fits : (length g.llrs ≤ length g.buffers.soft) × (length g.llrs ≤ length g.buffers.hard) × (length g.llrs ≤ room)
+      fits =
           let r = rooms (call_of g) call-zero in
           let n = as_many g call-zero in
-          (omega (arith, r.0, n), omega (arith, r.1, n), omega (arith, (rooms inner inner-zero).0, n))
+          (omega (arith, r.0, n), omega (arith, r.1, n), omega (arith, (rooms inner inner-zero).0, n, zeros_long room _ cut))
+
+      -- so the front of what the decoder left is put back
+      module _ (soft-long : length after.soft ≡ length B) (hard-long : length after.hard ≡ length g.buffers.hard) where
+        pub values_reach : length g.llrs ≤ length (after.soft ++ drop room zeros)
+        values_reach = omega (arith, fits, soft-long, zeros_long room _ cut, length-append after.soft (drop room zeros))
+
+        pub hard_reaches : length g.llrs ≤ length after.hard
+        hard_reaches = omega (arith, fits, hard-long)
+
+        pub backs : (2 ≤ stage) × (stage ≤ 10) × (length (take (length g.llrs) (after.soft ++ drop room zeros)) ≡ 2 ^ stage) × (2 ^ stage ≤ length g.buffers.soft)
+            × (length (take (length g.llrs) after.hard) ≡ 2 ^ stage)
+        backs =
+            let m = moves g.llrs stage r in
+            (m.0, m.1, length-take-le _ (after.soft ++ drop room zeros) values_reach ∙ m.2, omega (arith, fits, m.2), length-take-le _ after.hard hard_reaches ∙ m.2)
 
       -- of an accepted call the soft values go to the front of their buffer, and the first N hard bits are reordered
       pub moved-accepted : (values rest soft : List ℤ) (hard : List ℕ) → values ≡ after.soft ++ rest
@@ -294,7 +316,7 @@ module _ (g : Given) (stage : ℕ) (some : stage ≡ 0 → ⊥) (is : stage ≡ 
           same = stage_is call-zero
 
           sized : 2 ^ n ≡ size
-          sized = ap (λ (m : ℕ). 2 ^ m) (sym same) ∙ sym power
+          sized = ap (λ (m : ℕ). 2 ^ m) (sym same) ∙ sym (power g.llrs stage r)
 
           made : List ℤ
           made = map word_of (decode_answer inner).soft
@@ -309,9 +331,5 @@ module _ (g : Given) (stage : ℕ) (some : stage ≡ 0 → ⊥) (is : stage ≡ 
 
           hards : reordered 0 stage (take size after.hard) ++ drop size after.hard ≡ over (reordered 0 n (decode_answer inner).hard) g.buffers.hard
           hards =
-              front-moved 0 stage size (decode_answer inner).hard g.buffers.hard after.hard (length-hards inner ∙ sized) power (o.left.hard-is ∙ rw inner-zero)
+              front-moved 0 stage size (decode_answer inner).hard g.buffers.hard after.hard (length-hards inner ∙ sized) (power g.llrs stage r) (o.left.hard-is ∙ rw inner-zero)
               ∙ ap (λ (m : ℕ). over (reordered 0 m (decode_answer inner).hard) g.buffers.hard) same
-
--- the same for an order that is 1
-pub in_order-one : {order : ℕ} → order ≡ 1 → {g : Given} {after : Lent} {number cycles check undecided : ℕ} → OutcomeIn 1 g after number cycles check undecided → OutcomeIn order g after number cycles check undecided
-in_order-one e {g} {after} {number} {cycles} {check} {undecided} o = subst (λ (k : ℕ). OutcomeIn k g after number cycles check undecided) (sym e) o

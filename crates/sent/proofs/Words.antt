@@ -15,7 +15,10 @@ use Rattle.model.proofs.Lists.{absurd_bool}
 use Rattle.model.proofs.Refusals.{passes, exponent-power}
 use Rattle.model.proofs.Transform.{length-transform}
 use Rattle.model.proofs.Reordering.{in_order-few}
-use Rattle.sent.proofs.Outcomes.{same-accepted, not-accepted, front-moved}
+use Rattle.sent.proofs.Accepted.{same-accepted, not-accepted, front-moved}
+use Rattle.inputs.specs.declared.Refusal.{Refusal}
+use Rattle.inputs.specs.Numbers.{refusal_number}
+use Rattle.inputs.proofs.Rows.{refusal_not_zero}
 use Rattle.sent.proofs.Orders.{first_fails}
 
 module _ (order : ℕ) (mask payload word : List ℕ) where
@@ -29,11 +32,11 @@ module _ (order : ℕ) (mask payload word : List ℕ) where
   made = encode n mask payload
 
   -- one of the first tests failed
-  pub first-refused-word : (r : ℕ) → r ≡ order_number order (refusal (row_1 (length mask) ∷ [])) → (r ≡ 0 → ⊥) → (r ≡ encode_number_in order mask payload (length word)) × (word ≡ encode_word_in order mask payload word)
+  pub first-refused-word : (r : Refusal) → refusal_number r ≡ order_number order (refusal (row_1 (length mask) ∷ [])) → (refusal_number r ≡ encode_number_in order mask payload (length word)) × (word ≡ encode_word_in order mask payload word)
   unfolding encode_number_in encode_number encode_word_in
-  first-refused-word r is ne =
-      let e : r ≡ encode_number_in order mask payload (length word) = is ∙ first_fails order (length mask) _ (λ z. ne (is ∙ z)) in
-      (e, not-accepted _ _ word (λ z. ne (e ∙ z)))
+  first-refused-word r is =
+      let e : refusal_number r ≡ encode_number_in order mask payload (length word) = is ∙ first_fails order (length mask) _ (λ z. refusal_not_zero r (is ∙ z)) in
+      (e, not-accepted _ _ word (λ z. refusal_not_zero r (e ∙ z)))
 
   module _ (is : is_order order ≡ true) where
     pub word_number : number ≡ encode_number_in order mask payload (length word)

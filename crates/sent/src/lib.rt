@@ -1,86 +1,75 @@
 // Encoder and decoder for callers who name the order of a word's places: 1 is that of the trial series, in which they are sent by their bits
-// backwards, 2 is document 01's. What is called here is in order 2.
+// backwards, 2 is the one in which they stand. What is called here is in order 2.
 #![tactic(auto)]
 
-ghost use Rattle.std.specs.Prelude.{◌≡◌, not, ◌&&◌, [], ◌∷◌, ◌^◌, ◌≤◌, min, eqb, leb, pos, length};
+ghost use Rattle.std.specs.Prelude.{◌≡◌, ◌&&◌, [], ◌∷◌, ◌^◌, ◌≤◌, eqb, leb, pos, length};
 ghost use Rattle.model.specs.Lists.{over};
 ghost use Rattle.model.specs.Refusals.{exponent, refusal, row_1};
-ghost use Rattle.model.specs.Sent.{reordered, is_order, order_number, encode_number_in, encode_word_in};
+ghost use Rattle.model.specs.Sent.{reordered, order_number, encode_number_in, encode_word_in};
+ghost use Rattle.inputs.specs.Numbers.{number_of, of_accepted};
 ghost use Rattle.decode.specs.Calls.{lent, given};
 ghost use Rattle.sent.specs.Calls.{OutcomeIn};
 
 use decode::{Decoded, decode};
 use encode::encode;
-use inputs::{both, exponent_of, tested};
+use inputs::{Refusal, exponent_of};
 use reorder::{reorder_llrs, reorder_words};
 use reorder_bytes::reorder_bytes;
 
-// The order by bits backwards, and document 01's.
+// The order by bits backwards, and the one in which places stand.
 const BACKWARDS: usize = 1;
 
 const NATURAL: usize = 2;
 
-// The number of another order.
-const BAD_ORDER: u32 = 21;
-
-// Whether an order is neither.
-fn is_other(order: usize) -> bool
-    ensures { result ≡ not (is_order order) }
-{
-    both(order != BACKWARDS, order != NATURAL)
-}
-
 // The tests that come first: the order's, then the length's.
-fn first_tests(order: usize, size: usize) -> u32
-    ensures { result ≡ order_number order (refusal (row_1 size ∷ [])) }
+#[tactic(auto, unfolding(model::specs::Sent::order_number, model::specs::Refusals::refusal))]
+fn first_tests(order: usize, size: usize) -> Result<(), Refusal>
+    ensures { number_of result ≡ order_number order (refusal (row_1 size ∷ [])) }
 {
-    let known = !is_other(order);
-    let allowed = exponent_of(size) != 0;
-    let second = tested(allowed, 0, 1);
-    tested(known, second, BAD_ORDER)
+    if order != BACKWARDS && order != NATURAL {
+        return Err(Refusal::Order);
+    }
+    if exponent_of(size) == 0 {
+        return Err(Refusal::Length);
+    }
+    Ok(())
 }
 
 // Whether a list of so many places is moved: N of 4 or more is, by order 1. Two places backwards are the same two.
 fn is_moved(order: usize, stage: usize) -> bool
     ensures { result ≡ (eqb order 1 && leb 2 stage) }
 {
-    both(order == BACKWARDS, 2 <= stage)
+    order == BACKWARDS && 2 <= stage
 }
 
 // The word of a payload of an N of 4 or more in order 1: that of order 2, which is reordered where it stands.
-fn encode_backwards(mask: &[u8], payload: &[u8], word: &mut [u8], stage: usize) -> u32
+fn encode_backwards(
+    mask: &[u8],
+    payload: &[u8],
+    word: &mut [u8],
+    stage: usize,
+) -> Result<(), Refusal>
     requires { (2 ≤ stage) × (stage ≡ exponent (length mask.now)) }
-    ensures value { result ≡ encode_number_in 1 mask.now payload.now (length word.old) }
+    ensures value { number_of result ≡ encode_number_in 1 mask.now payload.now (length word.old) }
     ensures word_after { word.new ≡ encode_word_in 1 mask.now payload.now word.old }
 {
-    let number = encode(mask, payload, word);
-    if number == 0 {
-        reorder_bytes(&mut word[..mask.len()], stage);
-    }
-    number
+    encode(mask, payload, word)?;
+    reorder_bytes(&mut word[..mask.len()], stage);
+    Ok(())
 }
 
-// The word of a payload, in the order, into the first N bytes of `word`. The answer is the number.
-pub fn encode_in(order: usize, mask: &[u8], payload: &[u8], word: &mut [u8]) -> u32
-    ensures value { result ≡ encode_number_in order mask.now payload.now (length word.old) }
+// The word of a payload, in the order, into the first N bytes of `word`.
+pub fn encode_in(order: usize, mask: &[u8], payload: &[u8], word: &mut [u8]) -> Result<(), Refusal>
+    ensures value { number_of result ≡ encode_number_in order mask.now payload.now (length word.old) }
     ensures word_after { word.new ≡ encode_word_in order mask.now payload.now word.old }
 {
-    let first = first_tests(order, mask.len());
-    if first != 0 {
-        return first;
-    }
+    first_tests(order, mask.len())?;
     let stage = exponent_of(mask.len());
     if is_moved(order, stage) {
-        return encode_backwards(mask, payload, word, stage);
+        encode_backwards(mask, payload, word, stage)
+    } else {
+        encode(mask, payload, word)
     }
-    encode(mask, payload, word)
-}
-
-// The smaller of two lengths.
-fn smaller(a: usize, b: usize) -> usize
-    ensures { result ≡ min a b }
-{
-    if a < b { a } else { b }
 }
 
 // Soft values and hard word put in order 1.
@@ -105,21 +94,21 @@ fn decode_backwards(
     payload: &mut [u8],
     work: &mut [i32],
     stage: usize,
-) -> Decoded
+) -> Result<Decoded, Refusal>
     requires { (2 ≤ stage) × (stage ≡ exponent (length llrs.now)) }
     ensures { OutcomeIn 1
         (given mask.now plan.now sweeps llrs.now
         (lent soft.old hard.old payload.old work.old))
         (lent soft.new hard.new payload.new work.new)
-        result.number result.cycles result.check result.undecided }
+        (number_of result) (of_accepted (λ d. d.cycles) result) (of_accepted (λ d. d.check) result) (of_accepted (λ d. d.undecided) result) }
 {
     let size = llrs.len();
     let mut own = [0i16; 1024];
     reorder_llrs(llrs, &mut own, stage);
     // As long as the soft values' buffer, up to the largest N, so that it is short where that is.
     let mut values = [0i32; 1024];
-    let room = smaller(soft.len(), 1024);
-    let d = decode(
+    let room = soft.len().min(1024);
+    let decoded = decode(
         mask,
         plan,
         sweeps,
@@ -128,11 +117,9 @@ fn decode_backwards(
         hard,
         payload,
         work,
-    );
-    if d.number == 0 {
-        results_back(&values[..size], soft, &mut hard[..size], stage);
-    }
-    d
+    )?;
+    results_back(&values[..size], soft, &mut hard[..size], stage);
+    Ok(decoded)
 }
 
 // Decodes LLRs in the order, along an allowed plan; soft values and hard word are in the order too.
@@ -146,25 +133,18 @@ pub fn decode_in(
     hard: &mut [u8],
     payload: &mut [u8],
     work: &mut [i32],
-) -> Decoded
+) -> Result<Decoded, Refusal>
     ensures { OutcomeIn order
         (given mask.now plan.now sweeps llrs.now
         (lent soft.old hard.old payload.old work.old))
         (lent soft.new hard.new payload.new work.new)
-        result.number result.cycles result.check result.undecided }
+        (number_of result) (of_accepted (λ d. d.cycles) result) (of_accepted (λ d. d.check) result) (of_accepted (λ d. d.undecided) result) }
 {
-    let first = first_tests(order, mask.len());
-    if first != 0 {
-        return Decoded {
-            number: first,
-            cycles: 0,
-            check: 0,
-            undecided: 0,
-        };
-    }
+    first_tests(order, mask.len())?;
     let stage = exponent_of(llrs.len());
     if is_moved(order, stage) {
-        return decode_backwards(mask, plan, sweeps, llrs, soft, hard, payload, work, stage);
+        decode_backwards(mask, plan, sweeps, llrs, soft, hard, payload, work, stage)
+    } else {
+        decode(mask, plan, sweeps, llrs, soft, hard, payload, work)
     }
-    decode(mask, plan, sweeps, llrs, soft, hard, payload, work)
 }

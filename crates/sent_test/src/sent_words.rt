@@ -1,7 +1,7 @@
 // A word of the file: encoded, and LLRs with its signs decoded, both in order 1.
 use std::io;
 use test_tools::buffers::{Bytes, bytes, lent_bytes, lent_words, same_bytes, shorts};
-use test_tools::numbers::{both, choose, least, one_if, signed};
+use test_tools::numbers::{choose, least, one_if, signed};
 use test_tools::report::{end_line, print_values};
 use test_tools::tally::Count;
 use test_tools::texts::{digits_of, field};
@@ -41,24 +41,21 @@ fn encodes(c: Case) -> bool {
     let payload = c.payload;
     let expected = c.word;
     let mut word = [FILLER; 4112];
-    let number = sent::encode_in(
+    let encoded = sent::encode_in(
         BACKWARDS,
         bytes(&mask, c.n),
         bytes(&payload, c.k),
         lent_bytes(&mut word, c.n),
     );
-    both(number == 0, same_bytes(word, expected))
+    encoded.is_ok() && same_bytes(word, expected)
 }
 
 // LLRs from 1 to 50, negative where the word has a 1.
 fn llrs_of(word: Bytes, n: usize) -> [i16; 1056] {
-    let end = least(n, 1056);
     let mut llrs = [0i16; 1056];
-    let mut i = 0;
-    while i < end {
+    for (i, (llr, bit)) in llrs.iter_mut().zip(&word).take(n).enumerate() {
         let size = 1 + i % 50;
-        llrs[i] = signed(choose(word[i] == 1, 65536 - size, size));
-        i += 1;
+        *llr = signed(choose(*bit == 1, 65536 - size, size));
     }
     llrs
 }
@@ -78,7 +75,7 @@ fn decodes(c: Case) -> bool {
     let mut hard = [FILLER; 4112];
     let mut payload = [FILLER; 4112];
     let mut work = [0i32; 13344];
-    let d = sent::decode_in(
+    let decoded = sent::decode_in(
         BACKWARDS,
         bytes(&mask, c.n),
         bytes(&plan, 2 * least(c.n, 1024)),
@@ -89,18 +86,15 @@ fn decodes(c: Case) -> bool {
         lent_bytes(&mut payload, c.k),
         &mut work,
     );
-    let accepted = both(planned.number == 0, both(d.number == 0, d.check == 1));
-    both(
-        accepted,
-        both(same_bytes(hard, word), same_bytes(payload, bits)),
-    )
+    let accepted = planned.is_ok() && decoded.is_ok_and(|d| d.check == 1);
+    accepted && same_bytes(hard, word) && same_bytes(payload, bits)
 }
 
 // A case: both calls. Prints its number if one is not right.
 pub fn run_word(rt: &impl Print, case: usize, line: &[u8]) -> io::Result<Count> {
     let encoded = encodes(case_of(line));
     let decoded = decodes(case_of(line));
-    if !both(encoded, decoded) {
+    if !(encoded && decoded) {
         print_values(
             rt,
             b"mismatch: case |, encoder right |, decoder right ",

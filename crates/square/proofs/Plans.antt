@@ -1,12 +1,14 @@
--- The planner's plan for a mask of at most 32 positions: it is made, it is allowed, and its cycles are few. Assumes nothing.
+-- The planner's plan for a mask of at most 32 positions: it is made, lines are decoded by it, and its cycles are few. Assumes nothing.
 use mathlib.Core.Path.{◌≡◌, refl, sym, ap, ◌∙◌, subst}
-use mathlib.Core.Bool.{false}
+use mathlib.Core.Bool.{Bool, false}
 use mathlib.Core.List.{List}
-use Prim.Native.Nat.{ℕ, zero, suc, ◌*◌, ◌^◌, ◌≤◌}
+use Prim.Native.Nat.{ℕ, zero, suc, ◌+◌, ◌*◌, ◌^◌, ◌≤◌}
+use native.Mathlib.Decide.{dec_le}
+use native.Mathlib.Nat.{mul-le-mul}
 use native.Mathlib.Omega.{arith}
 use borrow.Author.Tests.{ne_eqb, le-leb}
-use lib.Dec.{eqb}
-use lib.ListN.{length, take}
+use lib.Dec.{T, eqb}
+use lib.ListN.{length, take, replicate, length-replicate}
 use lib.Pow.{pow_mono}
 use Rattle.model.specs.Lists.{at_most}
 use Rattle.model.specs.Encoding.{max_mask}
@@ -18,19 +20,39 @@ use Rattle.model.proofs.Theorems.{cycles-most}
 use Rattle.planner.proofs.Results.{front, planner_result}
 use Rattle.inputs.specs.Tests.{MaskPassed}
 use Rattle.model.specs.Square.{line_cycles}
+use Rattle.square_lines.specs.Frames.{Ready}
 
-module _ (mask : List ℕ) (stage : ℕ) (p : MaskPassed mask stage) (few : length mask ≤ 32) (plan : List ℕ) (room : length plan ≡ 64) where
-  planned : 0 ≡ plan_number mask (length plan)
+module _ (mask : List ℕ) (stage : ℕ) (p : MaskPassed mask stage) (few : length mask ≤ 32) where
+  -- the plan is written over these
+  abbrev plan : List ℕ
+  plan = replicate 64 0
+
+  room : length plan ≡ 64
+  room = length-replicate {A = ℕ} 64 0
+
+  pub planned : 0 ≡ plan_number mask (length plan)
   unfolding plan_number refusal
   planned =
       let some : eqb (exponent (length mask)) 0 ≡ false = ne_eqb (exponent (length mask)) 0 (λ z. p.not-zero (p.stage_is ∙ z)) in
       rw (some, T_true (at_most max_mask mask) p.bytes, le-leb (2 * length mask) (length plan) (omega (arith, room, few)))
 
-  pub planned-is : (out : List ℕ) → out ≡ plan_bytes mask plan → take (2 * length mask) out ≡ planner_plan stage mask
-  planned-is out e = front mask plan planned out e ∙ ap (λ (n : ℕ). planner_plan n mask) (sym p.stage_is)
+  -- at most 32 positions are at most five stages
+  low : stage ≤ 5
+  low = go (dec_le stage 5)
+    where
+      go : Dec (stage ≤ 5) → stage ≤ 5
+      go (yes l) = l
+      go (no m) = let more : 2 ^ 6 ≤ 2 ^ stage = pow_mono (let h : 6 ≤ stage = omega arith in h) in absurd (omega (arith, more, p.sized, few))
 
-  pub planned-allowed : (out : List ℕ) → out ≡ plan_bytes mask plan → Allowed stage (take (2 * length mask) out) mask
-  planned-allowed out e = subst (λ (n : ℕ). Allowed n (take (2 * length mask) out) mask) (sym p.stage_is) (planner_result mask plan planned out e).allowed
+  pub ready : (out : List ℕ) → out ≡ plan_bytes mask plan → (ones : Bool) → (ones ≡ false → T (at_most 1 mask)) → Ready mask (take (2 * length mask) out) ones stage 256
+  ready out e ones ones_is = record {
+    sized = p.sized;
+    low = low;
+    planned = front mask plan planned out e ∙ ap (λ (n : ℕ). planner_plan n mask) (sym p.stage_is);
+    allowed = subst (λ (n : ℕ). Allowed n (take (2 * length mask) out) mask) (sym p.stage_is) (planner_result mask plan planned out e).allowed;
+    ones_is = ones_is;
+    room = let h : stage + 3 ≤ 8 = omega (arith, low) in mul-le-mul few h;
+  }
 
   pub planned-cycles : plan_cycles mask (length plan) ≡ line_cycles stage mask
   unfolding plan_cycles

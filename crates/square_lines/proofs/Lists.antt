@@ -1,13 +1,15 @@
 -- A line's soft values as words, and a frame's as words with a line replaced. Assumes nothing.
 use mathlib.Core.Path.{◌≡◌, sym, ap, ap₂, ◌∙◌, subst}
-use mathlib.Core.List.{List, map}
+use mathlib.Core.Bool.{Bool}
+use mathlib.Core.List.{List, map, ◌++◌, append-nil}
 use Prim.Native.Nat.{ℕ, ◌*◌, ◌^◌, ◌≤◌, ◌<◌}
 use native.Mathlib.Omega.{arith}
 use lib.IntN.{ℤ, pos, negsuc, nat_abs}
-use lib.ListN.{length, get_or, get_or-map}
-use lib.Seq.{ext_get_or}
+use lib.ListN.{length, get_or, get_or-map, take, drop, drop_of_length-le}
+use lib.Pow.{pow_mono}
+use lib.Seq.{ext_get_or, take_at, length-take-le}
 use lib.Signed.{mag}
-use Rattle.model.specs.Lists.{tabulate}
+use Rattle.model.specs.Lists.{tabulate, over}
 use Rattle.model.specs.Soft.{Soft, finite, soft_zero, ◌at◌, soft_of, word_of, max_llr}
 use Rattle.model.proofs.Lists.{length_tabulate, get_d_tabulate, tabulate_ext}
 use Rattle.model.proofs.Flips.{length-soft}
@@ -19,8 +21,18 @@ use Rattle.model.specs.Square.{Direction, place_of, with_line, clamped_sum, Fram
 use Rattle.model.proofs.SquareLines.{place-below, with_line-map}
 use Rattle.model.proofs.HalfIterations.{own-step, other_step, sums-long, sums_are, up-to_all}
 use Rattle.model.proofs.SquareBytes.{clamped-size}
-use Rattle.square_lines.specs.Frames.{LlrsAll, clamped_sums, line_from, Stored}
-use Rattle.square_lines.proofs.Places.{overwritten}
+use Rattle.square_lines.specs.Frames.{LlrsAll, Ready, clamped_sums, line_from, Stored}
+
+-- a list of n elements that is overwritten by as many
+pub overwritten : {A : Type 0} (n : ℕ) (f : ℕ → A) (old : List A) → length old ≡ n → over (tabulate n f) old ≡ tabulate n f
+unfolding over
+overwritten {A} n f old e =
+    let past : length old ≤ length (tabulate n f) = omega (arith, e, length_tabulate n f) in
+    ap (λ (l : List A). tabulate n f ++ l) (drop_of_length-le old past) ∙ append-nil (tabulate n f)
+
+-- N is at most 32
+pub few-lines : {mask plan : List ℕ} {ones : Bool} {n words : ℕ} → Ready mask plan ones n words → length mask ≤ 32
+few-lines r = let most : 2 ^ _ ≤ 2 ^ 5 = pow_mono r.low in omega (arith, most, r.sized)
 
 -- a buffer of N words that the soft values of a line were stored in
 pub soft-stored : (w : List ℤ) (n : ℕ) (mask : List ℕ) (inputs : List ℤ) → length mask ≡ 2 ^ n → length w ≡ length mask
@@ -47,6 +59,13 @@ line-llrs by N frame i places line range k lt =
     let below : k < N = subst (λ (m : ℕ). k < m) (length_tabulate N _) lt in
     subst (λ (z : ℤ). nat_abs z ≤ max_llr) (sym (get_d_tabulate N (λ k. word frame (place_of by N i k)) k (pos 0) below))
     (range (place_of by N i k) (subst (λ (m : ℕ). place_of by N i k < m) (sym places) (place-below by N i k line below)))
+
+-- a line that was gathered into the front of a longer array
+pub lent-llrs : (by : Direction) (zeros made : List ℤ) (N : ℕ) (frame : List ℤ) (i : ℕ) → N ≤ length zeros → made ≡ line_from by (length (take N zeros)) frame i
+    → length frame ≡ N * N → i < N → LlrsAll frame → LlrsAll (take N (made ++ drop N zeros))
+lent-llrs by zeros made N frame i few e places line range =
+    let made-is : made ≡ line_from by N frame i = e ∙ ap (λ (m : ℕ). line_from by m frame i) (length-take-le N zeros few) in
+    subst LlrsAll (sym (take_at made (drop N zeros) N (ap length made-is ∙ length-line by N frame i) ∙ made-is)) (line-llrs by N frame i places line range)
 
 -- ---- a half-iteration, from what is stored
 module _ (by : Direction) (n : ℕ) (mask : List ℕ) (channel others : List ℤ) (sized : length mask ≡ 2 ^ n) (places : length channel ≡ length mask * length mask) (range : LlrsAll channel) where

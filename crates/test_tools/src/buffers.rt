@@ -1,7 +1,7 @@
 // Buffers of a fixed length, handed on by value: a caller has nothing to lend and no index to prove.
 ghost use Rattle.std.specs.Prelude.{◌≤◌};
 
-use crate::numbers::{least, next, one_if};
+use crate::numbers::next;
 
 // Twice 2056 bytes: a plan for a mask of any length that is tried.
 pub type Bytes = [u8; 4112];
@@ -17,14 +17,11 @@ fn drawn(limit: u32, x: u32) -> u8
 fn draw(limit: u32, n: usize, seed: u32) -> Bytes
     requires { 1 ≤ limit }
 {
-    let end = least(n, 4112);
     let mut s = [0u8; 4112];
     let mut x = seed;
-    let mut i = 0;
-    while i < end {
+    for b in s.iter_mut().take(n) {
         x = next(x);
-        s[i] = drawn(limit, x);
-        i += 1;
+        *b = drawn(limit, x);
     }
     s
 }
@@ -43,38 +40,38 @@ pub fn draw_mask_bytes(n: usize, seed: u32) -> Bytes {
 }
 
 pub fn same_bytes(a: Bytes, b: Bytes) -> bool {
-    check::same(&a, &b)
+    a == b
 }
 
 // Whether the first n bytes are the same.
 pub fn same_front(a: Bytes, b: Bytes, n: usize) -> bool {
-    check::same(bytes(&a, n), bytes(&b, n))
+    bytes(&a, n) == bytes(&b, n)
 }
 
 // ---- the first n elements
 
 pub fn bytes(s: &[u8], n: usize) -> &[u8] {
-    if n <= s.len() { &s[0..n] } else { s }
+    if n <= s.len() { &s[..n] } else { s }
 }
 
 pub fn shorts(s: &[i16], n: usize) -> &[i16] {
-    if n <= s.len() { &s[0..n] } else { s }
+    if n <= s.len() { &s[..n] } else { s }
 }
 
 pub fn floats(s: &[f32], n: usize) -> &[f32] {
-    if n <= s.len() { &s[0..n] } else { s }
+    if n <= s.len() { &s[..n] } else { s }
 }
 
 pub fn lent_bytes(s: &mut [u8], n: usize) -> &mut [u8] {
-    if n <= s.len() { &mut s[0..n] } else { s }
+    if n <= s.len() { &mut s[..n] } else { s }
 }
 
 pub fn lent_shorts(s: &mut [i16], n: usize) -> &mut [i16] {
-    if n <= s.len() { &mut s[0..n] } else { s }
+    if n <= s.len() { &mut s[..n] } else { s }
 }
 
 pub fn lent_words(s: &mut [i32], n: usize) -> &mut [i32] {
-    if n <= s.len() { &mut s[0..n] } else { s }
+    if n <= s.len() { &mut s[..n] } else { s }
 }
 
 // ---- words
@@ -84,18 +81,15 @@ fn drawn_word(x: u32) -> i32 {
 }
 
 fn word_at(s: &[i32], i: usize) -> i32 {
-    if i < s.len() { s[i] } else { 0 }
+    s.get(i).copied().unwrap_or(0)
 }
 
 // The first n words drawn; the others stay.
 pub fn draw_words(s: &mut [i32], n: usize, seed: u32) {
-    let end = least(n, s.len());
     let mut x = seed;
-    let mut i = 0;
-    while i < end {
+    for word in s.iter_mut().take(n) {
         x = next(x);
-        s[i] = drawn_word(x);
-        i += 1;
+        *word = drawn_word(x);
     }
 }
 
@@ -106,42 +100,24 @@ fn left_word(cleared: bool, x: u32) -> i32 {
 // Whether a call that was lent drawn words left the first `cleared` zero and those after them to n as they were.
 pub fn words_stay(s: &[i32], cleared: usize, n: usize, seed: u32) -> bool {
     let mut x = seed;
-    let mut i = 0;
-    while i < n {
+    for i in 0..n {
         x = next(x);
         if word_at(s, i) != left_word(i < cleared, x) {
             return false;
         }
-        i += 1;
     }
     true
-}
-
-fn same_word(a: &[i32], b: &[i32], i: usize) -> bool {
-    if i < a.len() {
-        if i < b.len() {
-            return a[i] == b[i];
-        }
-    }
-    false
 }
 
 // Whether the first n words are there and the same.
 pub fn same_words(a: &[i32], b: &[i32], n: usize) -> bool {
-    let mut i = 0;
-    while i < n {
-        if !same_word(a, b, i) {
-            return false;
-        }
-        i += 1;
-    }
-    true
+    n <= a.len() && n <= b.len() && a[..n] == b[..n]
 }
 
 // ---- reads and stores that do nothing outside a buffer
 
 pub fn byte_at(s: &[u8], i: usize) -> u8 {
-    if i < s.len() { s[i] } else { 0 }
+    s.get(i).copied().unwrap_or(0)
 }
 
 // The buffer with one byte changed.
@@ -156,26 +132,22 @@ pub fn with_byte(s: Bytes, i: usize, b: u8) -> Bytes {
 // Eight bytes, and zeros behind them.
 pub fn extended(front: [u8; 8]) -> Bytes {
     let mut s = [0u8; 4112];
-    let mut i = 0;
-    while i < 8 {
-        s[i] = front[i];
-        i += 1;
-    }
+    s[..8].copy_from_slice(&front);
     s
 }
 
 // ---- masks
 
+// The first n bytes one value, and fillers behind them.
+pub fn filled(n: usize, byte: u8, filler: u8) -> Bytes {
+    let mut s = [filler; 4112];
+    lent_bytes(&mut s, n).fill(byte);
+    s
+}
+
 // How many of the first n positions are unfrozen.
 pub fn unfrozen(mask: Bytes, n: usize) -> usize
     ensures { result ≤ n }
 {
-    let end = least(n, 4112);
-    let mut count = 0;
-    let mut i = 0;
-    while i < end {
-        count += one_if(mask[i] == 0);
-        i += 1;
-    }
-    count
+    mask.iter().take(n).filter(|b| **b == 0).count()
 }

@@ -10,6 +10,7 @@ pub fn read_full<R: Read>(input: &mut R, buf: &mut [u8]) -> io::Result<usize>
     ensures { ReadsAtMost result buf.new }
 {
     let mut done = 0;
+    // No `for`: a read brings as few bytes as it likes, and `done` moves by what came.
     while done < buf.len() {
         let n = input.read(&mut buf[done..])?;
         if n == 0 {

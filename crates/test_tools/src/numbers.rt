@@ -1,5 +1,18 @@
 // Small functions of numbers, and pseudo-random numbers.
-ghost use Rattle.std.specs.Prelude.{◌≤◌, max};
+ghost use Rattle.std.specs.Prelude.{◌≡◌, ◌≤◌, max};
+ghost use Rattle.inputs.specs.Numbers.{number_of};
+
+use inputs::Refusal;
+
+// The number of a call's answer, by which expected values name a refusal: 0 where the call was accepted.
+pub fn number_of<T>(answer: &Result<T, Refusal>) -> u32
+    ensures { result ≡ number_of answer.now }
+{
+    match answer {
+        Ok(_) => 0,
+        Err(refusal) => refusal.number(),
+    }
+}
 
 // 2 ^ stage, for a stage to 10.
 pub fn length_of(stage: usize) -> usize
@@ -22,23 +35,20 @@ pub fn length_of(stage: usize) -> usize
 
 // Whether n is an allowed N.
 pub fn is_length(n: usize) -> bool {
-    match n {
-        2 | 4 | 8 | 16 | 32 | 64 | 128 | 256 | 512 | 1024 => true,
-        _ => false,
-    }
+    matches!(n, 2 | 4 | 8 | 16 | 32 | 64 | 128 | 256 | 512 | 1024)
 }
 
 // a - b, or 0 below it.
 pub fn minus(a: usize, b: usize) -> usize
     ensures { result ≤ a }
 {
-    if b <= a { a - b } else { 0 }
+    a.saturating_sub(b)
 }
 
 pub fn least(a: usize, b: usize) -> usize
     ensures { (result ≤ a) × (result ≤ b) }
 {
-    if a < b { a } else { b }
+    a.min(b)
 }
 
 pub fn choose(first: bool, a: usize, b: usize) -> usize
@@ -52,26 +62,18 @@ pub fn choose_byte(first: bool, a: u8, b: u8) -> u8 {
 }
 
 pub fn bit_if(b: bool) -> u8 {
-    if b { 1 } else { 0 }
+    u8::from(b)
 }
 
 pub fn one_if(b: bool) -> usize
     ensures { result ≤ 1 }
 {
-    if b { 1 } else { 0 }
+    usize::from(b)
 }
 
-pub fn both(a: bool, b: bool) -> bool {
-    if a { b } else { false }
-}
-
-// A 16-bit number as a signed one: from 32768 on it is negative, all bits of a smaller one turned round.
+// A 16-bit number as a signed one: from 32768 on it is negative. A larger number counts as 65535.
 pub fn signed(n: usize) -> i16 {
-    if n < 32768 {
-        n as i16
-    } else {
-        !((minus(65535, n) % 32768) as i16)
-    }
+    (n.min(65535) as u16).cast_signed()
 }
 
 // The next pseudo-random number (xorshift).

@@ -1,5 +1,6 @@
 // Cases of a file, in groups: how many cases and calls there were, and how many calls came out right.
 use crate::report::print_values;
+use crate::texts::part;
 use std::io;
 
 #[derive(Clone, Copy)]
@@ -20,9 +21,9 @@ pub fn zero() -> Count {
 // None comes near 2 ^ 64.
 pub fn sum(a: Count, b: Count) -> Count {
     Count {
-        cases: std::num::wrapping_add_usize(a.cases, b.cases),
-        right: std::num::wrapping_add_usize(a.right, b.right),
-        calls: std::num::wrapping_add_usize(a.calls, b.calls),
+        cases: a.cases.wrapping_add(b.cases),
+        right: a.right.wrapping_add(b.right),
+        calls: a.calls.wrapping_add(b.calls),
     }
 }
 
@@ -54,7 +55,7 @@ pub fn no_cases() -> Tally {
 // The number of the next case; the first has number 1.
 pub fn next_number(t: Tally) -> usize {
     let all = sum(t.total, t.group);
-    std::num::wrapping_add_usize(all.cases, 1)
+    all.cases.wrapping_add(1)
 }
 
 // A case's counts added to its group's.
@@ -74,4 +75,26 @@ pub fn end_group(rt: &impl Print, t: Tally, name: &[u8]) -> io::Result<Tally> {
         group: zero(),
         total: sum(t.total, group),
     })
+}
+
+// Runs the lines of a file. One that begins with '#' is a comment, one with '=' ends a group and names it, and every other one, a blank
+// one too, is a case: `run_case` is handed its number and the line, and answers its counts. Behind the last line feed there is no line if
+// the file ends there. The lines around the call stay in each `main`: the buffer of each program has a length of its own.
+pub fn run_cases<F: Fn(usize, &[u8]) -> io::Result<Count>>(
+    rt: &impl Print,
+    file: &[u8],
+    run_case: F,
+) -> io::Result<Tally>
+    requires { F.IsAlwaysCallable run_case }
+{
+    let mut t = no_cases();
+    for ended in file.split_inclusive(|b| *b == b'\n') {
+        let line = ended.strip_suffix(b"\n").unwrap_or(ended);
+        t = match line.first() {
+            Some(b'#') => t,
+            Some(b'=') => end_group(rt, t, part(line, 2, line.len()))?,
+            _ => with_count(t, run_case(next_number(t), line)?),
+        };
+    }
+    Ok(t)
 }

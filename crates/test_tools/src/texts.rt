@@ -2,31 +2,23 @@
 // is left out, so that no caller has an index to prove.
 ghost use Rattle.std.specs.Prelude.{◌≤◌, max, length};
 
-use crate::buffers::{Bytes, byte_at};
-use crate::numbers::{least, minus};
+use crate::buffers::Bytes;
+use crate::numbers::minus;
 
 // The bytes from a to e.
 pub fn part(s: &[u8], a: usize, e: usize) -> &[u8] {
-    if a <= e {
-        if e <= s.len() {
-            return &s[a..e];
-        }
-    }
-    &s[0..0]
+    s.get(a..e).unwrap_or(&[])
 }
 
-// Where the first b stands, from a position on; the end if there is none.
+// Where the first b stands, from a position on; the end if there is none. The library `fields` has one like it: a test does not use what it
+// tests.
 pub fn find(s: &[u8], from: usize, b: u8) -> usize
     ensures { (from ≤ result) × (result ≤ max from (length s.now)) }
 {
-    let mut i = from;
-    while i < s.len() {
-        if s[i] == b {
-            return i;
-        }
-        i += 1;
+    match s.get(from..) {
+        Some(rest) => from + rest.iter().position(|x| *x == b).unwrap_or(rest.len()),
+        None => from,
     }
-    i
 }
 
 // The value of a hexadecimal digit.
@@ -43,22 +35,17 @@ fn digit(b: u8) -> u8
 // The number of hexadecimal digits, below 2 ^ 32.
 pub fn number(s: &[u8]) -> u32 {
     let mut n: u32 = 0;
-    let mut i = 0;
-    while i < s.len() {
-        n = n % 268435456 * 16 + digit(s[i]) as u32;
-        i += 1;
+    for b in s {
+        n = n % 268435456 * 16 + u32::from(digit(*b));
     }
     n
 }
 
 // Hexadecimal digits as bytes, and fillers behind them.
 pub fn digits_of(digits: &[u8], filler: u8) -> Bytes {
-    let end = least(digits.len(), 4112);
     let mut s = [filler; 4112];
-    let mut i = 0;
-    while i < end {
-        s[i] = digit(byte_at(digits, i));
-        i += 1;
+    for (b, d) in s.iter_mut().zip(digits) {
+        *b = digit(*d);
     }
     s
 }
@@ -66,16 +53,8 @@ pub fn digits_of(digits: &[u8], filler: u8) -> Bytes {
 // ---- fields of a line
 
 // Field k of a line, from 0 on; a space stands between two.
-pub fn field(line: &[u8], k: usize) -> &[u8]
-    requires { k ≤ 9 }
-{
-    let mut at = 0;
-    let mut i = 0;
-    while i < k {
-        at = find(line, at, b' ') + 1;
-        i += 1;
-    }
-    part(line, at, find(line, at, b' '))
+pub fn field(line: &[u8], k: usize) -> &[u8] {
+    line.split(|b| *b == b' ').nth(k).unwrap_or(&[])
 }
 
 // The number of some digits: those before the last eight are its high half.
@@ -85,9 +64,7 @@ pub fn value(digits: &[u8]) -> usize {
 }
 
 // The number in field k.
-pub fn value_at(line: &[u8], k: usize) -> usize
-    requires { k ≤ 9 }
-{
+pub fn value_at(line: &[u8], k: usize) -> usize {
     value(field(line, k))
 }
 
@@ -105,10 +82,8 @@ pub fn put(s: &mut [u8], at: usize, b: u8) -> usize {
 // Stores a text.
 pub fn put_all(s: &mut [u8], from: usize, text: &[u8]) -> usize {
     let mut at = from;
-    let mut i = 0;
-    while i < text.len() {
-        at = put(s, at, byte_at(text, i));
-        i += 1;
+    for b in text {
+        at = put(s, at, *b);
     }
     at
 }

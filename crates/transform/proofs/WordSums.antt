@@ -32,14 +32,15 @@ module _ (h i : ℕ) (d e : List ℕ) (p : Filled (sums d h) d e i) where
       turned j = omega arith
 
   -- stored, they fill the next eight places
-  pub filled-word : (k x y : ℕ) (v : List ℕ) → k ≡ 8 → i + 8 ≤ length d → length v ≡ length (mid_of i k e) → v ≡ bytes_of (bit_xor x y)
-      → bytes_of x ≡ take 8 (drop i e) → bytes_of y ≡ take 8 (drop (i + h) e) → Filled (sums d h) d (put_mid i k e v) (i + 8)
-  filled-word k x y v q l n r first second = (
-    omega arith,
-    same_len_mid i k e v n ∙ p.1,
+  pub filled-word : (n k x y : ℕ) (v : List ℕ) → i + 8 ≡ n → k ≡ 8 → n ≤ length d → length v ≡ length (mid_of i k e) → v ≡ bytes_of (bit_xor x y)
+      → bytes_of x ≡ take 8 (drop i e) → bytes_of y ≡ take 8 (drop (i + h) e) → Filled (sums d h) d (put_mid i k e v) n
+  filled-word n k x y v s q l m r first second = (
+    l,
+    same_len_mid i k e v m ∙ p.1,
     ap₂ (λ (a b : List ℕ). a ++ b) front (ap₂ (λ (a b : List ℕ). a ++ b) (r ∙ xor_parts x y first second) back)
         ∙ sym (append_assoc (tabulate i (sums d h)) (tabulate 8 (λ j. sums d h (j + i))) (drop (i + 8) d))
-        ∙ ap (λ (t : List ℕ). t ++ drop (i + 8) d) (sym (tabulate_split i 8 (sums d h))),
+        ∙ ap (λ (t : List ℕ). t ++ drop (i + 8) d) (sym (tabulate_split i 8 (sums d h)))
+        ∙ ap (λ (t : ℕ). tabulate t (sums d h) ++ drop t d) s,
   )
     where
       front : take i e ≡ tabulate i (sums d h)

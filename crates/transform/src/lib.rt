@@ -4,21 +4,20 @@
 ghost use Rattle.std.specs.Prelude.{◌≡◌, ◌*◌, ◌^◌, ◌%◌, ◌≤◌, length};
 ghost use Rattle.model.specs.Encoding.{transform};
 ghost use Rattle.blocks.specs.Steps.{low_bits, AllBits, add_half, each_block, add_halves};
+ghost use Rattle.inputs.specs.Numbers.{number_of};
 ghost use Rattle.transform.specs.Calls.{transform_number, transform_bytes};
 ghost use Rattle.transform.specs.Steps.{Whole};
 
 use blocks::{eight_bytes, four_bits, sixteen_bytes, two_bits};
-use inputs::exponent_of;
+use inputs::{Refusal, exponent_of};
 use packed::{load_word, store_word};
 
 // Each byte modulo 2.
 fn reduce(bits: &mut [u8])
     ensures { bits.new ≡ low_bits bits.old }
 {
-    let mut i: usize = 0;
-    while i < bits.len() {
-        bits[i] = bits[i] % 2;
-        i += 1;
+    for byte in bits.iter_mut() {
+        *byte %= 2;
     }
 }
 
@@ -27,13 +26,9 @@ fn sixteens(bits: &mut [u8], count: usize)
     requires { length bits.old ≡ count * 16 }
     ensures { bits.new ≡ each_block (transform 4) 16 count bits.old }
 {
-    let mut left = count;
-    let mut from: usize = 0;
-    while 0 < left {
-        let to = from + 16;
-        sixteen_bytes(&mut bits[from..to]);
-        from = to;
-        left -= 1;
+    for i in 0..count {
+        let from = 16 * i;
+        sixteen_bytes(&mut bits[from..from + 16]);
     }
 }
 
@@ -42,14 +37,10 @@ fn add_half(block: &mut [u8], h: usize)
     requires { (length block.old ≡ 2 * h) × (h % 8 ≡ 0) }
     ensures { block.new ≡ add_half h block.old }
 {
-    let mut left = h / 8;
-    let mut k: usize = 0;
-    while 0 < left {
+    for i in 0..h / 8 {
+        let k = 8 * i;
         let w = load_word(block, k) ^ load_word(block, k + h);
-        let to = k + 8;
-        store_word(&mut block[k..to], w);
-        k = to;
-        left -= 1;
+        store_word(&mut block[k..k + 8], w);
     }
 }
 
@@ -59,13 +50,9 @@ fn add_halves(bits: &mut [u8], h: usize, count: usize)
     ensures { bits.new ≡ add_halves h count bits.old }
 {
     let size = 2 * h;
-    let mut left = count;
-    let mut from: usize = 0;
-    while 0 < left {
-        let to = from + size;
-        add_half(&mut bits[from..to], h);
-        from = to;
-        left -= 1;
+    for i in 0..count {
+        let from = size * i;
+        add_half(&mut bits[from..from + size], h);
     }
 }
 
@@ -84,6 +71,7 @@ fn stride(bits: &mut [u8], h: usize, count: usize)
 }
 
 // The transform of 2 ^ n bytes, sixteen or more, each modulo 2: blocks of sixteen, and the strides 16, 32 and so on.
+// The stride is doubled: shifted from a loop's number it was tried, and was slower at N = 1024.
 fn long_strides(bits: &mut [u8], n: usize)
     requires { (4 ≤ n) × (length bits.old ≡ 2 ^ n) }
     ensures { bits.new ≡ transform n bits.old }
@@ -91,12 +79,10 @@ fn long_strides(bits: &mut [u8], n: usize)
     let mut count = bits.len() / 16;
     sixteens(bits, count);
     let mut h: usize = 16;
-    let mut t: usize = 4;
-    while t < n {
+    for _ in 4..n {
         count /= 2;
         stride(bits, h, count);
         h *= 2;
-        t += 1;
     }
 }
 
@@ -107,9 +93,9 @@ fn word_strides(bits: &mut [u8], n: usize)
 {
     if n == 3 {
         eight_bytes(bits);
-        return;
+    } else {
+        long_strides(bits, n);
     }
-    long_strides(bits, n);
 }
 
 // The transform of 2 ^ n bits: two and four by bytes, more by words.
@@ -125,20 +111,20 @@ pub fn strides(bits: &mut [u8], n: usize)
     }
 }
 
-// The transform in place of N bytes, each taken modulo 2. The answer is the number.
-pub fn transform(bits: &mut [u8]) -> u32
-    ensures value { result ≡ transform_number bits.old }
+// The transform in place of N bytes, each taken modulo 2.
+pub fn transform(bits: &mut [u8]) -> Result<(), Refusal>
+    ensures value { number_of result ≡ transform_number bits.old }
     ensures bits_after { bits.new ≡ transform_bytes bits.old }
 {
     let n = exponent_of(bits.len());
     if n == 0 {
-        return 1;
+        return Err(Refusal::Length);
     }
     if n < 3 {
         reduce(bits);
         strides(bits, n);
-        return 0;
+    } else {
+        word_strides(bits, n);
     }
-    word_strides(bits, n);
-    0
+    Ok(())
 }

@@ -118,10 +118,6 @@ pub add-zero : (a : ℤ) → add_word a (pos 0) ≡ a
 unfolding add_word
 add-zero a = ap word_of (plus-zero-r (soft_of a)) ∙ word-soft a
 
-pub signed_is : (s : Bool) (n : ℕ) → cond s (neg_ℤ (pos n)) (pos n) ≡ signed s n
-signed_is true n = refl
-signed_is false n = refl
-
 -- ---- values read back from words
 pub small_size : (c : ℕ) (z : ℤ) → Small c (soft_of z) → nat_abs z ≤ c
 small_size c z u = go (soft_of z) (word-soft z) u

@@ -60,9 +60,6 @@ module _ {w₀ w : List ℤ} {m h k : ℕ} {f g : ℕ → ℤ} (s : BothStored w
     long = long;
   }
 
-  pub all_of-both : h ≤ k → w ≡ write (write w₀ m h f) (m + h) h g
-  all_of-both le = s.words ∙ ap (λ (n : ℕ). write (write w₀ m n f) (m + h) n g) (le_antisymm s.few le)
-
   -- a word outside both halves is as it was
   pub outside_both : (j : ℕ) → (j < m) ⊎ (m + (h + h) ≤ j) → word w j ≡ word w₀ j
   outside_both j = source-both (pos 0) w₀ w m h k f g j s.words s.few

@@ -1,11 +1,11 @@
 -- Signed words: what the machine reads back from bits, and bounds of negations and sums, over ℕ. Assumes nothing.
-use mathlib.Core.Path.{◌≡◌, refl, sym, ap, ap₂, ◌∙◌, subst}
+use mathlib.Core.Path.{◌≡◌, refl, sym, ap, ap₂, ◌∙◌}
 use mathlib.Core.Bool.{Bool, true, false, cond}
 use Prim.Native.Nat.{ℕ, zero, suc, ◌^◌, ◌<◌, min, zero-le}
 use native.Mathlib.Omega.{arith}
 use lib.IntN.{ℤ, pos, negsuc, neg_ℤ, nat_abs, ◌+ℤ◌, ◌-ℤ◌, +ℤ_idl}
 use lib.Signed.{mag, lt_z}
-use lib.Dec.{T, ltb, leb-suc-suc}
+use lib.Dec.{ltb, leb-suc-suc}
 use borrow.Author.Tests.{ltb-true, ltb-false, lt-ltb, le-ltb}
 use mir.Syntax.{w16, w32}
 use mir.Val.{SFits, of_z, to_z}
@@ -21,31 +21,10 @@ fits_word (negsuc n) h = record { sfits = omega arith }
 pub neg-fits : (z : ℤ) → Word z → SFits w32 (pos 0 -ℤ z)
 neg-fits z h = rw (+ℤ_idl (neg_ℤ z)) (fits_word (neg_ℤ z) (rw (abs_neg z) h))
 
--- -1 less a number
-pub flip_is : (z : ℤ) → negsuc 0 -ℤ z ≡ flip z
-flip_is (pos zero) = refl
-flip_is (pos (suc n)) = ap negsuc (omega arith)
-flip_is (negsuc n) = rw (le-ltb (suc n) 1 (omega arith)) (ap pos (omega arith))
-
-flip-mag : (z : ℤ) → mag (flip z) ≡ mag z
-flip-mag (pos n) = refl
-flip-mag (negsuc n) = refl
-
-pub flip-fits : (z : ℤ) → SFits w32 z → SFits w32 (negsuc 0 -ℤ z)
-flip-fits z h = rw (flip_is z) (record { sfits = rw (flip-mag z) h.sfits })
-
 -- the test `z < 0`
 pub lt_z-zero : (z : ℤ) → lt_z z (pos 0) ≡ negative z
 lt_z-zero (pos n) = le-ltb n 0 zero-le
 lt_z-zero (negsuc n) = refl
-
-pub abs_yes : (z : ℤ) → negative z ≡ true → pos 0 -ℤ z ≡ pos (nat_abs z)
-abs_yes (pos n) e = absurd (subst T (sym e) tt)
-abs_yes (negsuc n) e = +ℤ_idl (pos (suc n))
-
-pub abs_no : (z : ℤ) → negative z ≡ false → z ≡ pos (nat_abs z)
-abs_no (pos n) e = refl
-abs_no (negsuc n) e = absurd (subst T e tt)
 
 -- the test of a word against a literal, as `z == 2147483647`, which is of the bits
 pub number_yes : (m : ℕ) → m < 2 ^ 31 → (z : ℤ) → SFits w32 z → of_z w32 z ≡ m → z ≡ pos m
@@ -68,13 +47,6 @@ back_of f ok e p q = back ok ∙ e ∙ ap₂ f p q
 
 pub back16 : {z : ℤ} → mag z < 2 ^ 15 → to_z w16 (of_z w16 z) ≡ z
 back16 h = to_z-of_z {w = w16} (record { sfits = h })
-
--- the cast of an i16 to an i32
-pub wide16 : (z : ℤ) → mag z < 2 ^ 15 → SFits w32 (to_z w16 (of_z w16 z))
-wide16 z h = rw (back16 h) (let g : mag z < 2 ^ 31 = omega arith in record { sfits = g })
-
-pub back-wide : {z : ℤ} → mag z < 2 ^ 15 → to_z w32 (of_z w32 (to_z w16 (of_z w16 z))) ≡ z
-back-wide {z} h = to_z-of_z (wide16 z h) ∙ back16 h
 
 -- ---- box by the smaller of two words, both negated if their sum is negative
 flip-order : (a b : ℤ) → lt_z (flip a) (flip b) ≡ lt_z b a

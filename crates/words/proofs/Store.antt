@@ -174,6 +174,16 @@ module _ {A : Type 0} (z : A) where
       ∙ ap (λ (i : ℕ). set (put_mid y k w part) i (f n)) (let e : length t + (a + n) ≡ y + a + n = omega arith in e)
       ∙ ap (λ (l : List A). set l (y + a + n) (f n)) (write_mid w y k a n f fit (omega arith))
 
+  -- a part of n words that starts at y, put in with the words of f, is their store
+  pub put-write : (w part : List A) (y k n : ℕ) (f : ℕ → A) → k ≡ n → y + n ≤ length w → length part ≡ n → ((j : ℕ) → j < n → get_or part j z ≡ f j) → put_mid y k w part ≡ write w y n f
+  put-write w part y k n f e fit long is =
+      let mid : List A = mid_of y n w in
+      let lm : length mid ≡ n = length-take-le n (drop y w) (omega (arith, length-drop y w)) in
+      let all : part ≡ write mid 0 n f =
+      ext_get_or z part (write mid 0 n f) (long ∙ sym (length-write mid 0 n f ∙ lm))
+      (λ j lt. is j (omega arith) ∙ sym (write_in mid 0 n f j (omega arith) (omega arith)) ∙ ap (λ (i : ℕ). get_or (write mid 0 n f) i z) (zero-add j)) in
+      rw e (ap (put_mid y n w) all ∙ write_mid w y n 0 n f fit (omega arith) ∙ ap (λ (i : ℕ). write w i n f) (let here : y + 0 ≡ y = omega arith in here))
+
   -- word i of the part
   pub get_or_mid : (w : List A) (y k i : ℕ) → i < k → get_or (mid_of y k w) i z ≡ get_or w (y + i) z
   get_or_mid w y k i lt = get_or-take k (drop y w) i z lt ∙ get_or-drop y w i z

@@ -14,14 +14,14 @@ pub const MARK_SIZE: u32 = MARK as u32;
 pub fn min_word(a: i32, b: i32) -> i32
     ensures { result ≡ cond (lt_z a b) a b }
 {
-    if a < b { a } else { b }
+    a.min(b)
 }
 
 // The larger of two words.
 pub fn max_word(a: i32, b: i32) -> i32
     ensures { result ≡ cond (lt_z a b) b a }
 {
-    if a < b { b } else { a }
+    a.max(b)
 }
 
 // The size of a word.
@@ -29,7 +29,7 @@ pub fn abs_word(a: i32) -> i32
     requires { Word a }
     ensures { result ≡ pos (nat_abs a) }
 {
-    if a < 0 { -a } else { a }
+    a.abs()
 }
 
 // The size of a word as an unsigned number.
@@ -37,7 +37,7 @@ pub fn size_word(a: i32) -> u32
     requires { Word a }
     ensures { result ≡ nat_abs a }
 {
-    abs_word(a) as u32
+    a.unsigned_abs()
 }
 
 // -m if neg, else m
@@ -98,7 +98,8 @@ pub fn sub_words(a: i32, b: i32) -> i32
     a - b
 }
 
-// w[m + k] = value. A single word, as a leaf's message is, needs no loop.
+// w[m + k] = value. A single word, as a leaf's message is, needs no loop. The library's `fill` stores the last word by itself, so that not all words of a
+// power of two go into wide stores.
 pub fn fill(w: &mut [i32], m: usize, s: usize, value: i32)
     requires { m + s ≤ length w.old }
     ensures { w.new ≡ write w.old m s (λ k. value) }
@@ -107,10 +108,8 @@ pub fn fill(w: &mut [i32], m: usize, s: usize, value: i32)
         w[m] = value;
         return;
     }
-    let mut k = 0;
-    while k < s {
+    for k in 0..s {
         w[m + k] = value;
-        k += 1;
     }
 }
 
@@ -129,8 +128,7 @@ pub fn store_four(w: &mut [i32], d: usize, p: i32, q: i32, r: i32, s: i32)
 pub fn widened(llr: i16) -> i32
     ensures { result ≡ llr }
 {
-    let word = llr as i32;
-    word
+    i32::from(llr)
 }
 
 // w[m + k] = llrs[k]
@@ -138,11 +136,8 @@ pub fn load_llrs(w: &mut [i32], m: usize, llrs: &[i16])
     requires { m + length llrs.now ≤ length w.old }
     ensures { w.new ≡ write w.old m (length llrs.now) (word llrs.now) }
 {
-    let mut k = 0;
-    while k < llrs.len() {
-        let v = widened(llrs[k]);
-        w[m + k] = v;
-        k += 1;
+    for (k, &llr) in llrs.iter().enumerate() {
+        w[m + k] = widened(llr);
     }
 }
 
@@ -151,10 +146,5 @@ pub fn copy_words(w: &[i32], x: usize, out: &mut [i32], m: usize, count: usize)
     requires { (x + count ≤ length w.now) × (m + count ≤ length out.old) }
     ensures { out.new ≡ write out.old m count (λ k. word w.now (x + k)) }
 {
-    let mut k = 0;
-    while k < count {
-        let v = w[x + k];
-        out[m + k] = v;
-        k += 1;
-    }
+    out[m..m + count].copy_from_slice(&w[x..x + count]);
 }

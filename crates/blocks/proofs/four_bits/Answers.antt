@@ -4,7 +4,7 @@ use mathlib.Core.List.{List, [], ◌∷◌}
 use Prim.Native.Nat.{ℕ}
 use native.Mathlib.Omega.{arith}
 use lib.Bits.{bit_xor}
-use lib.ListN.{length, get_or, set, length-set}
+use lib.ListN.{length, get_or, set}
 use Rattle.model.specs.Lists.{tabulate}
 use Rattle.blocks.specs.Steps.{add_half, each_block}
 use Rattle.blocks.proofs.Blocks.{strides_below, strides_all}
@@ -20,12 +20,6 @@ four (a ∷ b ∷ []) e = absurd (omega arith)
 four (a ∷ b ∷ c ∷ []) e = absurd (omega arith)
 four (a ∷ b ∷ c ∷ d ∷ []) e = refl
 four (a ∷ b ∷ c ∷ d ∷ x ∷ u) e = absurd (omega arith)
-
-pub bounds-bits-1-2 : goal.bounds-bits-1-2
-bounds-bits-1-2 c = simp length-set (omega arith)
-
-pub bounds-bits-2-2 : goal.bounds-bits-2-2
-bounds-bits-2-2 c = simp length-set (omega arith)
 
 pub returns : goal.returns
 returns c = four c.args.bits.now c.requires.0 ∙ strides_all 2 c.args.bits.now c.requires.0 c.requires.1

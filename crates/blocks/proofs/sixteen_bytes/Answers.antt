@@ -1,5 +1,5 @@
 -- `blocks::sixteen_bytes` meets its contract: the two words' transforms, and stride 8. Assumes nothing.
-use mathlib.Core.Path.{◌∙◌, sym, ap₂}
+use mathlib.Core.Path.{◌∙◌, ap₂}
 use mathlib.Core.List.{List, ◌++◌}
 use Prim.Native.Nat.{ℕ}
 use native.Mathlib.Omega.{arith}
@@ -13,9 +13,3 @@ returns c =
     stored-both u c.store_word.new.part c.store_word-2.new.part c.requires (c.store_word.auto.part ∙ length-take-le 8 u (omega arith))
     ∙ ap₂ (λ (s t : List ℕ). s ++ t) c.store_word.ensures c.store_word-2.ensures
     ∙ two-words u _ _ _ _ c.requires c.load_word-2.ensures c.load_word.ensures c.word_transform.ensures c.word_transform-second.ensures
-
-pub slice_bounds-store_word-end-2 : goal.slice_bounds-store_word-end-2
-slice_bounds-store_word-end-2 c = sym (length-take-le 8 c.args.bits.now (omega arith))
-
-pub store_word-requires : goal.store_word-requires
-store_word-requires c = length-take-le 8 c.args.bits.now (omega arith)

@@ -1,16 +1,15 @@
--- `captures::has_signature` meets its contract: the four bytes are those of the byte string. Assumes nothing.
-use mathlib.Core.Path.{◌≡◌, sym, ap₂, ◌∙◌}
-use mathlib.Core.Bool.{Bool, ◌&&◌}
-use Prim.Native.Nat.{ℕ, ◌+◌}
-use lib.Dec.{eqb}
-use lib.ListN.{get_or}
-use Rattle.captures.proofs.Numbers.{signature-is}
+-- `captures::has_signature` meets its contract: as many bytes as the signature has are compared with it. Assumes nothing.
+use Rattle.std.proofs.Common.{ℕ, List, take, ap, ◌∙◌, eqb}
+use lib.Pointwise.{pointwise}
+use Rattle.model.specs.Lists.{part}
+use Rattle.model.specs.Captures.{signature}
+use Rattle.model.proofs.Lists.{take_left}
+use Rattle.captures.proofs.Numbers.{pointwise-same}
 use Rattle.captures.proofs.has_signature.Goals as goal
 
 pub returns : goal.returns
 returns c =
-    let byte : ℕ → ℕ = λ k. get_or c.args.bytes.now (c.args.at + k) 0 in
-    let first = get_or c.args.bytes.now c.args.at 0 in
-    let front-is : c.both-front.result ≡ (eqb first 68 && eqb (byte 1) 82) = c.both-front.ensures in
-    let back_is : c.both-back.result ≡ (eqb (byte 2) 78 && eqb (byte 3) 49) = c.both-back.ensures in
-    c.both.ensures ∙ ap₂ (λ (a b : Bool). a && b) front-is back_is ∙ sym (signature-is c.args.bytes.now c.args.at c.requires)
+    let bytes = c.args.bytes.now in
+    c.starts_with.ensures.value
+    ∙ ap (λ (l : List ℕ). pointwise eqb signature (take 4 l)) (take_left bytes c.args.at)
+    ∙ pointwise-same (part bytes c.args.at 4) signature

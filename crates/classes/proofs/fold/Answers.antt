@@ -2,7 +2,6 @@ use mathlib.Core.Path.{◌≡◌, refl, ap, ap₂, ◌∙◌}
 use mathlib.Core.Bool.{Bool, cond}
 use mathlib.Core.List.{List}
 use Prim.Native.Nat.{ℕ, ◌+◌, ◌*◌, ◌^◌, ◌≤◌, ◌<◌}
-use native.Mathlib.Nat.{le_antisymm}
 use native.Mathlib.Omega.{arith}
 use lib.IntN.{ℤ, pos}
 use lib.ListN.{drop, length-set}
@@ -68,13 +67,6 @@ loop-k-preserved c =
       simp length-set c.loop-k.invariant.2,
     )
 
-pub returns : goal.returns
-returns c =
-    let a = c.args in
-    let l = drop a.x a.w.now in
-    c.loop-k.invariant.1
-    ∙ ap (λ (n : ℕ). write (write a.w.now a.m n (low_at l a.q)) (a.m + a.q) n (high_at l a.q)) (le_antisymm c.loop-k.invariant.0 c.loop-k-test.false)
-
 pub loop-k-init : goal.loop-k-init
 loop-k-init c =
     let a = c.args in
@@ -86,9 +78,3 @@ least_of-low-requires c = four-words c.args.w.now c.loop-k.w c.args.m c.args.x c
 
 pub next_of-requires : goal.next_of-requires
 next_of-requires c = four-words c.args.w.now c.loop-k.w c.args.m c.args.x c.args.q c.loop-k.k c.requires.q_bound.0 c.loop-k.invariant.0 c.loop-k.invariant.1 c.a-1.given c.b-1.given c.c-1.given c.d-1.given c.requires.words c.loop-k-test.true
-
-pub bounds-w-next : goal.bounds-w-next
-bounds-w-next c = simp length-set (omega arith)
-
-pub shape_of-w : goal.shape_of-w
-shape_of-w c = c.loop-k.invariant.2

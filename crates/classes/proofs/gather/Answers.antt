@@ -5,9 +5,6 @@ use Rattle.classes.specs.LeastSizes.{with_value}
 use Rattle.classes.proofs.Gathering.{had_none, had_more, had_all}
 use Rattle.classes.proofs.gather.Goals as goal
 
-pub with_value-g-requires : goal.with_value-g-requires
-with_value-g-requires c = rw (back c.with_value-arg-1.given) (c.requires.by_index c.loop-i.i)
-
 pub loop-i-preserved : goal.loop-i-preserved
 loop-i-preserved c =
     let loop = c.loop-i in

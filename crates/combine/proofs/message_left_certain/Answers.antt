@@ -1,10 +1,8 @@
 use mathlib.Core.Path.{sym, ◌∙◌, subst₂}
 use Prim.Native.Nat.{◌+◌}
-use native.Mathlib.Omega.{arith}
-use lib.ListN.{length-set}
 use Rattle.words.specs.Words.{Added, add_word}
 use Rattle.words.proofs.Signed.{back_of}
-use Rattle.words.proofs.Loops.{none_of-both, one_of_both, all_of-both}
+use Rattle.words.proofs.Loops.{none_of-both, one_of_both}
 use Rattle.halves.proofs.Laws.{box-certain, box-plus-certain, plus-box_certain}
 use Rattle.combine.proofs.Steps.{Turn, turn-reads}
 use Rattle.combine.proofs.message_left_certain.Goals as goal
@@ -20,9 +18,6 @@ loop-k-preserved c =
     (back_of add_word low.type_inv low.ensures t.second t.right ∙ sym (box-plus-certain a.w.now a.l (a.x + a.h) (a.l + a.h) _ (c.requires.holds _ lt) (c.requires.combinable.sums _ lt).1))
     (back_of add_word c.add_words-in-loop-k.type_inv c.add_words-in-loop-k.ensures t.first t.right ∙ sym (plus-box_certain a.w.now a.x a.l (a.l + a.h) _ (c.requires.holds _ lt) (c.requires.combinable.first _ lt)))
 
-pub returns : goal.returns
-returns c = all_of-both c.loop-k.invariant c.loop-k-test.false
-
 pub add_words-requires : goal.add_words-requires
 add_words-requires c =
     let turn : let a = c.args in Turn a.w.now c.loop-k.w a.x a.l a.h c.loop-k.k = turn-reads c.requires.places c.requires.combinable c.loop-k.invariant c.loop-k-test.true in
@@ -36,9 +31,3 @@ add_words-requires-in-loop-k c =
 
 pub loop-k-init : goal.loop-k-init
 loop-k-init c = none_of-both
-
-pub bounds-w-g : goal.bounds-w-g
-bounds-w-g c = let inv = c.loop-k.invariant in simp length-set (omega arith)
-
-pub shape_of-w : goal.shape_of-w
-shape_of-w c = c.loop-k.invariant.long

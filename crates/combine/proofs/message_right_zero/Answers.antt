@@ -1,10 +1,9 @@
 use mathlib.Core.Path.{sym, ◌∙◌, subst}
 use Prim.Native.Nat.{◌+◌}
 use native.Mathlib.Omega.{arith}
-use lib.ListN.{length-set}
 use Rattle.words.specs.Words.{Word, box_word}
 use Rattle.words.proofs.Signed.{back_of}
-use Rattle.words.proofs.Loops.{none_of-both, one_of_both, all_of-both}
+use Rattle.words.proofs.Loops.{none_of-both, one_of_both}
 use Rattle.halves.proofs.Laws.{box-plus-zero, plus-box_zero}
 use Rattle.combine.proofs.Steps.{Turn, turn-reads}
 use Rattle.combine.proofs.message_right_zero.Goals as goal
@@ -34,12 +33,3 @@ loop-k-preserved c =
 
 pub loop-k-init : goal.loop-k-init
 loop-k-init c = none_of-both
-
-pub bounds-w-g : goal.bounds-w-g
-bounds-w-g c = let inv = c.loop-k.invariant in simp length-set (omega arith)
-
-pub shape_of-w : goal.shape_of-w
-shape_of-w c = c.loop-k.invariant.long
-
-pub returns : goal.returns
-returns c = all_of-both c.loop-k.invariant c.loop-k-test.false

@@ -1,9 +1,7 @@
 use mathlib.Core.Path.{sym, subst, subst₂}
-use native.Mathlib.Omega.{arith}
-use lib.ListN.{length-set}
 use Rattle.words.specs.Words.{Word, Added, box_word, add_word}
 use Rattle.words.proofs.Signed.{back_of}
-use Rattle.words.proofs.Loops.{none_of-both, one_of_both, all_of-both}
+use Rattle.words.proofs.Loops.{none_of-both, one_of_both}
 use Rattle.combine.proofs.Steps.{Turn, turn-reads}
 use Rattle.combine.proofs.node_message.Goals as goal
 
@@ -15,9 +13,6 @@ loop-k-preserved c =
     one_of_both c.loop-k.invariant c.loop-k-test.true
     (back_of box_word c.box_words.type_inv c.box_words.ensures t.left (back_of add_word sum.type_inv sum.ensures t.second t.right))
     (back_of add_word c.add_words-in-loop-k.type_inv c.add_words-in-loop-k.ensures (back_of box_word c.box_words-in-loop-k.type_inv c.box_words-in-loop-k.ensures t.first t.left) t.right)
-
-pub returns : goal.returns
-returns c = all_of-both c.loop-k.invariant c.loop-k-test.false
 
 pub add_words-requires : goal.add_words-requires
 add_words-requires c =
@@ -45,9 +40,3 @@ add_words-requires-in-loop-k c =
 
 pub loop-k-init : goal.loop-k-init
 loop-k-init c = none_of-both
-
-pub bounds-w-g : goal.bounds-w-g
-bounds-w-g c = let inv = c.loop-k.invariant in simp length-set (omega arith)
-
-pub shape_of-w : goal.shape_of-w
-shape_of-w c = c.loop-k.invariant.long

@@ -1,37 +1,23 @@
-use mathlib.Core.Path.{refl, ap, ◌∙◌}
-use Prim.Native.Nat.{ℕ}
-use native.Mathlib.Omega.{arith}
-use native.Mathlib.Nat.{le_antisymm}
-use lib.ListN.{length-set}
-use Rattle.words.specs.Words.{word, write}
-use Rattle.words.proofs.Store.{store-none}
+use Rattle.std.proofs.Common.{rules, arith, ◌≡◌, ◌<◌, ◌^◌, ◌∙◌, length}
+use Rattle.std.proofs.lemmas.List.Edits.{fill_by_more}
+use lib.Signed.{mag}
+use Rattle.words.specs.Words.{word}
 use Rattle.decisions.specs.Bits.{decision, decision_at}
-use Rattle.decisions.proofs.Folds.{store-at_zero}
 use Rattle.decisions.proofs.Signs.{both-back}
+use Rattle.decisions.proofs.Buffers.{all-places}
 use Rattle.decisions.proofs.decide.Goals as goal
-
-pub loop-k-init : goal.loop-k-init
-loop-k-init c = (omega arith, store-none 0 _ _ _, refl)
-
-pub bounds-llrs-k : goal.bounds-llrs-k
-bounds-llrs-k c = omega (arith, c.loop-k-test.true, c.requires.values)
-
-pub bounds-soft-k : goal.bounds-soft-k
-bounds-soft-k c = omega (arith, c.loop-k-test.true, c.requires.softs)
 
 pub loop-k-preserved : goal.loop-k-preserved
 loop-k-preserved c =
-    let a = c.args in (
-      omega arith,
-      store-at_zero a.hard.now c.loop-k.hard c.loop-k.k _ (decision_at a.llrs.now a.soft.now) c.loop-k.invariant.1
-          (c.hard_bit.ensures ∙ both-back decision (word a.llrs.now c.loop-k.k) (word a.soft.now c.loop-k.k) c.llr-1.given c.value-1.given),
-      simp length-set c.loop-k.invariant.2,
-    )
-
-pub shape_of-hard : goal.shape_of-hard
-shape_of-hard c = c.loop-k.invariant.2
+    let a = c.args in
+    let k = c.loop-k.k in
+    let x : mag (word a.llrs.now k) < 2 ^ 15 = search rules in
+    let y : mag (word a.soft.now k) < 2 ^ 31 = search rules in
+    let e : c.hard_bit.result ≡ decision_at a.llrs.now a.soft.now k = c.hard_bit.ensures ∙ both-back decision (word a.llrs.now k) (word a.soft.now k) x y in
+    let lt : k < length c.loop-k.hard = omega arith in
+    rw e (fill_by_more (decision_at a.llrs.now a.soft.now) c.loop-k.hard k 0 lt c.loop-k.invariant)
 
 pub returns : goal.returns
 returns c =
     let a = c.args in
-    c.loop-k.invariant.1 ∙ ap (λ (n : ℕ). write a.hard.now 0 n (decision_at a.llrs.now a.soft.now)) (le_antisymm c.loop-k.invariant.0 c.loop-k-test.false)
+    all-places (length a.hard.now) (decision_at a.llrs.now a.soft.now) c.loop-k.hard (omega arith) (λ k h. c.loop-k.invariant k (omega arith))

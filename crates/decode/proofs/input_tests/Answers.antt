@@ -1,40 +1,33 @@
 -- `decode::input_tests` meets its contract: its tests are the rows' in their order. Assumes nothing.
-use mathlib.Core.Path.{◌≡◌, sym, ◌∙◌}
-use mathlib.Core.Bool.{true, false}
-use Rattle.model.specs.Refusals.{llrs_in_range}
+use mathlib.Core.Path.{sym, ◌∙◌}
+use Rattle.std.proofs.lemmas.Result.{err_from_is_err_and}
 use Rattle.decode.proofs.Tests.{refused-mask, refused-counts, refused-plan, refused-llrs, passed_as}
 use Rattle.decode.proofs.input_tests.Goals as goal
 
-pub returns-then-masked-ne0 : goal.returns-then-masked-ne0
-returns-then-masked-ne0 c =
+pub returns-in_err-masked : goal.returns-in_err-masked
+returns-in_err-masked c =
     let a = c.args in
-    refused-mask a.plan.now a.sweeps a.llrs.now c.mask_tests-masked.ensures c.refused.ensures c.if-masked-ne0.true
+    let e = err_from_is_err_and c.from_residual.result c.from_residual.ensures.1 in
+    rw (e.1, e.2) (refused-mask a.mask.now a.plan.now a.sweeps a.llrs.now c.in_err-masked.ensures)
 
-pub returns-then-counted-ne0 : goal.returns-then-counted-ne0
-returns-then-counted-ne0 c =
+pub returns-in_err-count_tests : goal.returns-in_err-count_tests
+returns-in_err-count_tests c =
     let a = c.args in
-    refused-counts a.plan.now a.sweeps a.llrs.now c.mask_tests-masked.ensures c.if-masked-ne0.false c.refused-then-counted-ne0.ensures c.count_tests-counted.ensures c.if-counted-ne0.true
+    let e = err_from_is_err_and c.from_residual-in_err-count_tests.result c.from_residual-in_err-count_tests.ensures.1 in
+    rw (e.1, e.2) (refused-counts a.mask.now a.plan.now a.sweeps a.llrs.now c.in_ok-masked.ensures c.in_err-count_tests.ensures)
 
-pub fault_of-planned-requires : goal.fault_of-planned-requires
-fault_of-planned-requires c = let passed = c.mask_tests-masked.ensures.passed c.if-masked-ne0.false in (passed.sized, passed.low)
-
-pub returns-then-planned-ne0 : goal.returns-then-planned-ne0
-returns-then-planned-ne0 c =
+pub returns-in_err-cycles : goal.returns-in_err-cycles
+returns-in_err-cycles c =
     let a = c.args in
-    refused-plan a.plan.now a.sweeps a.llrs.now c.mask_tests-masked.ensures c.if-masked-ne0.false (sym c.count_tests-counted.ensures ∙ c.if-counted-ne0.false)
-    c.refused-then-planned-ne0.ensures c.fault_of-planned.ensures.0 c.if-planned-ne0.true
+    let e = err_from_is_err_and c.from_residual-in_err-cycles.result c.from_residual-in_err-cycles.ensures.1 in
+    rw (e.1, e.2) (refused-plan a.mask.now a.plan.now a.sweeps a.llrs.now c.in_ok-masked.ensures c.in_ok-count_tests.ensures c.in_err-cycles.ensures.number)
 
 pub returns-then-not-in_range : goal.returns-then-not-in_range
 returns-then-not-in_range c =
     let a = c.args in
-    let allowed = sym c.fault_of-planned.ensures.0 ∙ c.if-planned-ne0.false in
-    let out : llrs_in_range a.llrs.now ≡ false = sym c.in_range.ensures ∙ c.if-not-in_range.true in
-    refused-llrs a.plan.now a.sweeps a.llrs.now c.mask_tests-masked.ensures c.if-masked-ne0.false (sym c.count_tests-counted.ensures ∙ c.if-counted-ne0.false)
-    allowed c.refused-then-not-in_range.ensures out
+    refused-llrs a.mask.now a.plan.now a.sweeps a.llrs.now c.in_ok-masked.ensures c.in_ok-count_tests.ensures c.in_ok-cycles.ensures.number (sym c.in_range.ensures ∙ c.if-not-in_range.true)
 
 pub returns : goal.returns
 returns c =
     let a = c.args in
-    let within : llrs_in_range a.llrs.now ≡ true = sym c.in_range.ensures ∙ c.if-not-in_range.false in
-    passed_as a.plan.now a.sweeps a.llrs.now c.mask_tests-masked.ensures c.if-masked-ne0.false (sym c.count_tests-counted.ensures ∙ c.if-counted-ne0.false)
-    (sym c.fault_of-planned.ensures.0 ∙ c.if-planned-ne0.false) within c.fault_of-planned.ensures.1
+    passed_as a.mask.now a.plan.now a.sweeps a.llrs.now c.in_ok-masked.ensures c.in_ok-count_tests.ensures c.in_ok-cycles.ensures.number (sym c.in_range.ensures ∙ c.if-not-in_range.false) c.in_ok-cycles.ensures.cycles

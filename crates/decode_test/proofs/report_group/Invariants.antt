@@ -1,9 +1,6 @@
--- `decode_test::report_group` is safe and ends. The loop's invariant: the sums are at most 65536 for each stage. Assumes nothing.
-use Rattle.std.proofs.Common.{◌+◌, ◌-◌, ◌*◌, ◌≤◌}
+-- `decode_test::report_group` is safe. The loop's invariant: the sums are at most 65536 for each stage. Assumes nothing.
+use Rattle.std.proofs.Common.{◌≤◌, ◌*◌}
 use Rattle.decode_test.proofs.report_group.Given as goal
 
 abbrev pub invariant-loop-stage : goal.invariant-loop-stage
-invariant-loop-stage g l = (1 ≤ l.stage) × (l.stage ≤ l.stages + 1) × (l.right ≤ 65536 * l.stage) × (l.undecided ≤ 65536 * l.stage) × (l.all ≤ 65536 * l.stage)
-
-abbrev pub decreases-loop-stage : goal.decreases-loop-stage
-decreases-loop-stage g l = l.stages + 1 - l.stage
+invariant-loop-stage g l = (l.right ≤ 65536 * l.stage) × (l.undecided ≤ 65536 * l.stage) × (l.all ≤ 65536 * l.stage)

@@ -8,33 +8,19 @@ use Rattle.encode.proofs.place_bits.Goals as goal
 use Rattle.encode.proofs.place_bits.Goals.{then-byte-eq-UNFROZEN, else-byte-eq-UNFROZEN}
 
 pub loop-i-init : goal.loop-i-init
-loop-i-init c = (search rules, record { long = refl; left = omega arith; whole = refl })
+loop-i-init c = record { long = refl; left = omega arith; whole = refl }
 
 pub bounds-payload-next : goal.bounds-payload-next
-bounds-payload-next c = next-below c.loop-i.invariant.1 (search rules) (search rules) c.if-byte-eq-UNFROZEN.true
-
-pub bounds-word-i : goal.bounds-word-i
-bounds-word-i c = omega (arith, c.loop-i.invariant.1.long)
-
-pub overflow_add-next : goal.overflow_add-next
-overflow_add-next c = record { fits = omega (arith, bounds-payload-next c) }
-
-pub bounds-word-i-else-byte-eq-UNFROZEN : goal.bounds-word-i-else-byte-eq-UNFROZEN
-bounds-word-i-else-byte-eq-UNFROZEN c = omega (arith, c.loop-i.invariant.1.long)
+bounds-payload-next c = next-below c.loop-i.invariant (search rules) (search rules) c.if-byte-eq-UNFROZEN.true
 
 pub loop-i-preserved : goal.loop-i-preserved
 loop-i-preserved c =
     let a = c.args in
-    let Next : List ℕ → ℕ → Type 0 = λ w n. Placed a.mask.now a.payload.now a.word.now w n (c.loop-i.i + 1) in (
-      search rules,
-      elim c.if-byte-eq-UNFROZEN.branch [
-        | then-byte-eq-UNFROZEN t ↦ subst₂ Next (sym t.word-is) (sym t.next-is) (placed-unfrozen c.loop-i.invariant.1 (search rules) (search rules) t.if-byte-eq-UNFROZEN.true)
-        | else-byte-eq-UNFROZEN t ↦ subst₂ Next (sym t.word-is) (sym t.next-is) (placed-frozen c.loop-i.invariant.1 (search rules) (search rules) t.known_bit.result t.known_bit.ensures t.if-byte-eq-UNFROZEN.false)
-      ],
-    )
-
-pub shape_of-word : goal.shape_of-word
-shape_of-word c = c.loop-i.invariant.1.long
+    let Next : List ℕ → ℕ → Type 0 = λ w n. Placed a.mask.now a.payload.now a.word.now w n (c.loop-i.i + 1) in
+    elim c.if-byte-eq-UNFROZEN.branch [
+      | then-byte-eq-UNFROZEN t ↦ subst₂ Next (sym t.word-is) (sym t.next-is) (placed-unfrozen c.loop-i.invariant (search rules) (search rules) t.if-byte-eq-UNFROZEN.true)
+      | else-byte-eq-UNFROZEN t ↦ subst₂ Next (sym t.word-is) (sym t.next-is) (placed-frozen c.loop-i.invariant (search rules) (search rules) t.known_bit.result t.known_bit.ensures t.if-byte-eq-UNFROZEN.false)
+    ]
 
 pub returns : goal.returns
-returns c = placed-all c.loop-i.invariant.1 (search rules)
+returns c = placed-all c.loop-i.invariant (search rules)

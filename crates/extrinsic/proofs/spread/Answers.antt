@@ -1,14 +1,22 @@
 use mathlib.Core.Path.{◌≡◌, refl, sym, ap, ◌∙◌, subst}
 use Prim.Native.Nat.{ℕ, ◌+◌, ◌<◌}
 use native.Mathlib.Omega.{arith}
-use native.Mathlib.Nat.{le_antisymm}
 use lib.IntN.{pos}
-use Rattle.words.specs.Words.{Word, word, write}
+use Rattle.words.specs.Words.{Word, word}
 use Rattle.words.proofs.Signed.{back}
 use Rattle.words.proofs.Store.{store-none}
-use Rattle.extrinsic.proofs.Fours.{at_place, read_is, four-stored}
+use Rattle.extrinsic.proofs.Fours.{read_is, four-stored}
 use Rattle.extrinsic.proofs.spread.Invariants.{without}
 use Rattle.extrinsic.proofs.spread.Goals as goal
+use Rattle.extrinsic.proofs.spread.Goals.{In-loop-k}
+
+-- the word at place k + j of the list is a word
+read_word : (c : In-loop-k) → (i j : ℕ) → j < 4 → i ≡ c.args.x + (c.loop-k.k + j) → Word (word c.loop-k.w i)
+read_word c i j lt e =
+    let test = c.loop-k-test.true in
+    let a = c.args in
+    subst Word (sym (read_is (without a.g) a.w.now c.loop-k.w a.m a.x c.loop-k.k c.loop-k.invariant.2 c.loop-k.invariant.1 (omega arith) i j e))
+    (c.requires.words (c.loop-k.k + j) (omega arith))
 
 pub loop-k-preserved : goal.loop-k-preserved
 loop-k-preserved c =
@@ -25,38 +33,21 @@ loop-k-preserved c =
       c.store_four.auto.w ∙ c.loop-k.invariant.3,
     )
 
-pub returns : goal.returns
-returns c =
-    let a = c.args in
-    c.loop-k.invariant.2 ∙ ap (λ (n : ℕ). write a.w.now a.m n (at_place (without a.g) a.w.now a.x)) (le_antisymm c.loop-k.invariant.0 c.loop-k-test.false)
-
 pub loop-k-init : goal.loop-k-init
 loop-k-init c = (omega arith, refl, store-none (pos 0) _ _ _, refl)
 
 pub leave_out-a-requires : goal.leave_out-a-requires
 leave_out-a-requires c =
-    let read_word : (i j : ℕ) → j < 4 → i ≡ c.args.x + (c.loop-k.k + j) → Word (word c.loop-k.w i) = λ i. λ j. λ lt. λ e. let a = c.args in
-    subst Word (sym (read_is (without a.g) a.w.now c.loop-k.w a.m a.x c.loop-k.k c.loop-k.invariant.2 c.loop-k.invariant.1 (omega arith) i j e))
-    (c.requires.words (c.loop-k.k + j) (omega arith)) in
-    record { word = rw (back c.leave_out-arg-1.given) (read_word _ 0 (omega arith) (omega arith)); sizes = c.requires.by_index 0 }
+    record { word = rw (back c.leave_out-arg-1.given) (read_word (goal.at.leave_out-a-requires c).In-loop-k _ 0 (omega arith) (omega arith)); sizes = c.requires.by_index 0 }
 
 pub leave_out-b-requires : goal.leave_out-b-requires
 leave_out-b-requires c =
-    let read_word : (i j : ℕ) → j < 4 → i ≡ c.args.x + (c.loop-k.k + j) → Word (word c.loop-k.w i) = λ i. λ j. λ lt. λ e. let a = c.args in
-    subst Word (sym (read_is (without a.g) a.w.now c.loop-k.w a.m a.x c.loop-k.k c.loop-k.invariant.2 c.loop-k.invariant.1 (omega arith) i j e))
-    (c.requires.words (c.loop-k.k + j) (omega arith)) in
-    record { word = rw (back c.leave_out-arg-in-loop-k-2-1.given) (read_word _ 1 (omega arith) (omega arith)); sizes = c.requires.by_index 1 }
+    record { word = rw (back c.leave_out-arg-in-loop-k-2-1.given) (read_word (goal.at.leave_out-b-requires c).In-loop-k _ 1 (omega arith) (omega arith)); sizes = c.requires.by_index 1 }
 
 pub leave_out-c-requires : goal.leave_out-c-requires
 leave_out-c-requires c =
-    let read_word : (i j : ℕ) → j < 4 → i ≡ c.args.x + (c.loop-k.k + j) → Word (word c.loop-k.w i) = λ i. λ j. λ lt. λ e. let a = c.args in
-    subst Word (sym (read_is (without a.g) a.w.now c.loop-k.w a.m a.x c.loop-k.k c.loop-k.invariant.2 c.loop-k.invariant.1 (omega arith) i j e))
-    (c.requires.words (c.loop-k.k + j) (omega arith)) in
-    record { word = rw (back c.leave_out-arg-in-loop-k-4-1.given) (read_word _ 2 (omega arith) (omega arith)); sizes = c.requires.by_index 2 }
+    record { word = rw (back c.leave_out-arg-in-loop-k-4-1.given) (read_word (goal.at.leave_out-c-requires c).In-loop-k _ 2 (omega arith) (omega arith)); sizes = c.requires.by_index 2 }
 
 pub leave_out-d-requires : goal.leave_out-d-requires
 leave_out-d-requires c =
-    let read_word : (i j : ℕ) → j < 4 → i ≡ c.args.x + (c.loop-k.k + j) → Word (word c.loop-k.w i) = λ i. λ j. λ lt. λ e. let a = c.args in
-    subst Word (sym (read_is (without a.g) a.w.now c.loop-k.w a.m a.x c.loop-k.k c.loop-k.invariant.2 c.loop-k.invariant.1 (omega arith) i j e))
-    (c.requires.words (c.loop-k.k + j) (omega arith)) in
-    record { word = rw (back c.leave_out-arg-in-loop-k-6-1.given) (read_word _ 3 (omega arith) (omega arith)); sizes = c.requires.by_index 3 }
+    record { word = rw (back c.leave_out-arg-in-loop-k-6-1.given) (read_word (goal.at.leave_out-d-requires c).In-loop-k _ 3 (omega arith) (omega arith)); sizes = c.requires.by_index 3 }

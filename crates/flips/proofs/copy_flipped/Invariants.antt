@@ -1,5 +1,4 @@
 -- `flips::copy_flipped` meets its contract. The loop's invariant: the first k words are copied. Assumes nothing.
-use Prim.Native.Nat.{◌-◌}
 use lib.IntN.{neg_ℤ}
 use lib.ListN.{length}
 use Rattle.model.specs.Lists.{on_ones, part}
@@ -9,6 +8,3 @@ use Rattle.flips.proofs.copy_flipped.Given as goal
 
 abbrev pub invariant-loop-k : goal.invariant-loop-k
 invariant-loop-k l = Stored l.initial.out l.out (length l.known) l.k (word (on_ones neg_ℤ l.known (part l.w l.x (length l.known))))
-
-abbrev pub decreases-loop-k : goal.decreases-loop-k
-decreases-loop-k l = length l.known - l.k

@@ -11,9 +11,6 @@ loop-i-init c = none-stored 0 _ _ _
 pub loop-i-preserved : goal.loop-i-preserved
 loop-i-preserved c = one-stored 0 c.loop-i.invariant c.loop-i-test.true c.known_bit.result c.known_bit.ensures
 
-pub shape_of-bits : goal.shape_of-bits
-shape_of-bits c = c.loop-i.invariant.long
-
 pub returns : goal.returns
 unfolding known_bits
 returns c =

@@ -1,5 +1,4 @@
 -- `flips::known_bits` meets its contract: the loop stores place by place. Assumes nothing.
-use Prim.Native.Nat.{◌-◌}
 use lib.ListN.{length, get_or}
 use Rattle.model.specs.Lists.{bit}
 use Rattle.model.specs.Encoding.{is_known_one}
@@ -8,6 +7,3 @@ use Rattle.flips.proofs.known_bits.Given as goal
 
 abbrev pub invariant-loop-i : goal.invariant-loop-i
 invariant-loop-i l = Stored l.initial.bits l.bits (length l.mask) l.i (λ j. bit (is_known_one (get_or l.mask j 0)))
-
-abbrev pub decreases-loop-i : goal.decreases-loop-i
-decreases-loop-i l = length l.mask - l.i

@@ -1,12 +1,9 @@
 -- `frames::differing_bits` meets its contract. The loop's invariant: the count so far and that of what is left give the answer. Assumes nothing.
-use mathlib.Core.Path.{◌≡◌}
-use Prim.Native.Nat.{◌+◌, ◌-◌, ◌≤◌}
-use lib.ListN.{length, drop}
+use Rattle.std.proofs.Common.{◌≡◌, ◌+◌, ◌≤◌, length}
 use Rattle.model.specs.Captures.{differing}
 use Rattle.frames.proofs.differing_bits.Given as goal
 
-abbrev pub invariant-loop-i : goal.invariant-loop-i
-invariant-loop-i l = (l.i ≤ length l.llrs) × (l.count ≤ l.i) × (differing l.llrs l.hard ≡ l.count + differing (drop l.i l.llrs) (drop l.i l.hard))
-
-abbrev pub decreases-loop-i : goal.decreases-loop-i
-decreases-loop-i l = length l.llrs - l.i
+abbrev pub invariant-loop-llr : goal.invariant-loop-llr
+invariant-loop-llr l =
+    (goal.iterator-loop-llr).can_next l.llr-iterator × (goal.iterator-loop-llr).is_finite l.llr-iterator × (l.count + length l.llr-iterator.a.rest.now ≤ length l.llrs)
+    × (differing l.llrs l.hard ≡ l.count + differing l.llr-iterator.a.rest.now l.llr-iterator.b.rest.now)

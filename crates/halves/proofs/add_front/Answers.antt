@@ -7,7 +7,7 @@ use mir.Syntax.{w32}
 use Rattle.words.specs.Words.{word, add_word}
 use Rattle.words.proofs.Signed.{back, back_of}
 use Rattle.words.proofs.Store.{source-above, source-below}
-use Rattle.words.proofs.Loops.{none-stored, one-stored, all-stored}
+use Rattle.words.proofs.Loops.{none-stored, one-stored}
 use Rattle.halves.proofs.add_front.Goals as goal
 
 pub add_finite-requires : goal.add_finite-requires
@@ -26,9 +26,3 @@ loop-k-preserved c =
 
 pub loop-k-init : goal.loop-k-init
 loop-k-init c = none-stored
-
-pub shape_of-part : goal.shape_of-part
-shape_of-part c = c.loop-k.invariant.long
-
-pub returns : goal.returns
-returns c = all-stored c.loop-k.invariant c.loop-k-test.false

@@ -1,7 +1,7 @@
 use mathlib.Core.Path.{sym, subst}
 use Rattle.words.specs.Words.{Word, box_word, add_word}
 use Rattle.words.proofs.Signed.{back_of}
-use Rattle.words.proofs.Loops.{none-stored, one-stored, all-stored}
+use Rattle.words.proofs.Loops.{none-stored, one-stored}
 use Rattle.halves.proofs.Steps.{source}
 use Rattle.halves.proofs.box_plus.Goals as goal
 
@@ -28,9 +28,3 @@ loop-k-preserved c =
 
 pub loop-k-init : goal.loop-k-init
 loop-k-init c = none-stored
-
-pub shape_of-w : goal.shape_of-w
-shape_of-w c = c.loop-k.invariant.long
-
-pub returns : goal.returns
-returns c = all-stored c.loop-k.invariant c.loop-k-test.false

@@ -1,11 +1,11 @@
-use mathlib.Core.Path.{◌≡◌, refl, subst}
-use Prim.Native.Nat.{ℕ, ◌+◌, ◌≤◌}
+use mathlib.Core.Path.{◌≡◌, subst}
+use Prim.Native.Nat.{ℕ, ◌+◌, ◌*◌, ◌≤◌}
 use native.Mathlib.Omega.{arith}
 use mathlib.Core.List.{List}
 use lib.IntN.{ℤ}
 use lib.ListN.{length}
 use Rattle.words.specs.Words.{write}
-use Rattle.words.proofs.Loops.{Stored, none-stored, next-stored, all-stored}
+use Rattle.words.proofs.Loops.{Stored, none-stored, next-stored}
 use Rattle.halves.specs.Halves.{Sources, box_plus}
 use Rattle.halves.proofs.Steps.{held, left-place, left-same}
 use Rattle.halves.proofs.left_eights.Goals as goal
@@ -15,55 +15,24 @@ four-more : {w₀ : List ℤ} {d a b c h k : ℕ} {v w : List ℤ} → Sources w
     → v ≡ write w (d + k) 4 (λ j. box_plus w a b c (k + j)) → length v ≡ length w → Stored w₀ d h (box_plus w₀ a b c) (k + 4) v
 four-more {a = a} {b = b} {c = c} {k = k} {w = w} s st le e long = next-stored st 4 (box_plus w a b c) le e long (λ j lt. left-same s st (k + j) (omega arith))
 
+pub loop-q-init : goal.loop-q-init
+loop-q-init c = none-stored
+
 pub left_four-requires : goal.left_four-requires
 left_four-requires c =
-    let room : c.loop-k.k + 8 ≤ c.args.h = let inv = c.loop-k.invariant.1 in let lt = c.loop-k-test.true in omega arith in
-    let left = room in
-    let st = c.loop-k.invariant.0 in
-    record { inside = held c.requires.sources.0 st _ (omega arith); by_index = λ i low high. left-place c.requires.sources.0 st i (omega arith) (c.requires.words.0 i (omega arith)) (c.requires.words.1 i (omega arith)) }
+    let room : 8 * c.loop-q.q + 8 ≤ c.args.h = let lt = c.loop-q-test.true in omega arith in
+    record { inside = held c.requires.sources.0 c.loop-q.invariant _ (omega arith); by_index = λ i low high. left-place c.requires.sources.0 c.loop-q.invariant i (omega arith) (c.requires.words.0 i (omega arith)) (c.requires.words.1 i (omega arith)) }
 
-pub left_four-requires-in-loop-k : goal.left_four-requires-in-loop-k
-left_four-requires-in-loop-k c =
-    let room : c.loop-k.k + 8 ≤ c.args.h = let inv = c.loop-k.invariant.1 in let lt = c.loop-k-test.true in omega arith in
-    let Now : ℕ → List ℤ → Type 0 = let a = c.args in Stored a.w.now a.d a.h (box_plus a.w.now a.a a.b a.c) in
-    let first : Now (c.loop-k.k + 4) c.left_four.new.w = let left = room in
-    four-more c.requires.sources.0 c.loop-k.invariant.0 (omega arith) c.left_four.ensures c.left_four.auto.w in
-    let left = room in
+pub left_four-requires-in-loop-q : goal.left_four-requires-in-loop-q
+left_four-requires-in-loop-q c =
+    let room : 8 * c.loop-q.q + 8 ≤ c.args.h = let lt = c.loop-q-test.true in omega arith in
+    let first = four-more c.requires.sources.0 c.loop-q.invariant (omega arith) c.left_four.ensures c.left_four.auto.w in
     record { inside = held c.requires.sources.0 first _ (omega arith); by_index = λ i low high. left-place c.requires.sources.0 first i (omega arith) (c.requires.words.0 i (omega arith)) (c.requires.words.1 i (omega arith)) }
 
-pub loop-k-preserved : goal.loop-k-preserved
-loop-k-preserved c =
-    let room : c.loop-k.k + 8 ≤ c.args.h = let inv = c.loop-k.invariant.1 in let lt = c.loop-k-test.true in omega arith in
-    let Now : ℕ → List ℤ → Type 0 = let a = c.args in Stored a.w.now a.d a.h (box_plus a.w.now a.a a.b a.c) in
-    let first : Now (c.loop-k.k + 4) c.left_four.new.w = let left = room in
-    four-more c.requires.sources.0 c.loop-k.invariant.0 (omega arith) c.left_four.ensures c.left_four.auto.w in
-    let left = room in
-    let k = c.loop-k.k in (
-      subst (λ (n : ℕ). Now n c.left_four-in-loop-k.new.w) (let e : k + 4 + 4 ≡ k + 8 = omega arith in e)
-          (four-more c.requires.sources.0 first (omega arith) c.left_four-in-loop-k.ensures c.left_four-in-loop-k.auto.w),
-      (let whole = c.loop-k.invariant.1 in omega arith),
-    )
-
-pub loop-k-init : goal.loop-k-init
-loop-k-init c = (none-stored, refl)
-
-pub overflow_add-k : goal.overflow_add-k
-overflow_add-k c =
-    let room : c.loop-k.k + 8 ≤ c.args.h = let inv = c.loop-k.invariant.1 in let lt = c.loop-k-test.true in omega arith in
-    let left = room in omega arith
-
-pub overflow_add-k-in-loop-k : goal.overflow_add-k-in-loop-k
-overflow_add-k-in-loop-k c =
-    let room : c.loop-k.k + 8 ≤ c.args.h = let inv = c.loop-k.invariant.1 in let lt = c.loop-k-test.true in omega arith in
-    let left = room in omega arith
-
-pub loop-k-smaller : goal.loop-k-smaller
-loop-k-smaller c =
-    let room : c.loop-k.k + 8 ≤ c.args.h = let inv = c.loop-k.invariant.1 in let lt = c.loop-k-test.true in omega arith in
-    let left = room in omega arith
-
-pub shape_of-w : goal.shape_of-w
-shape_of-w c = c.loop-k.invariant.0.long
-
-pub returns : goal.returns
-returns c = all-stored c.loop-k.invariant.0 c.loop-k-test.false
+pub loop-q-preserved : goal.loop-q-preserved
+loop-q-preserved c =
+    let room : 8 * c.loop-q.q + 8 ≤ c.args.h = let lt = c.loop-q-test.true in omega arith in
+    let first = four-more c.requires.sources.0 c.loop-q.invariant (omega arith) c.left_four.ensures c.left_four.auto.w in
+    let both = four-more c.requires.sources.0 first (omega arith) c.left_four-in-loop-q.ensures c.left_four-in-loop-q.auto.w in
+    let a = c.args in
+    subst (λ (n : ℕ). Stored a.w.now a.d a.h (box_plus a.w.now a.a a.b a.c) n c.left_four-in-loop-q.new.w) (let e : 8 * c.loop-q.q + 4 + 4 ≡ 8 * (c.loop-q.q + 1) = omega arith in e) both

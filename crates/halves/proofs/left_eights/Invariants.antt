@@ -1,12 +1,8 @@
--- `halves::left_eights` meets its contract. The loop's invariant: the first k words are stored, and k is a multiple of 8. Assumes nothing.
-use mathlib.Core.Path.{◌≡◌}
-use Prim.Native.Nat.{◌-◌, ◌%◌}
+-- `halves::left_eights` meets its contract. The loop's invariant: the first 8 * q words are stored. Assumes nothing.
+use Prim.Native.Nat.{◌*◌}
 use Rattle.words.proofs.Loops.{Stored}
 use Rattle.halves.specs.Halves.{box_plus}
 use Rattle.halves.proofs.left_eights.Given as goal
 
-abbrev pub invariant-loop-k : goal.invariant-loop-k
-invariant-loop-k l = Stored l.initial.w l.d l.h (box_plus l.initial.w l.a l.b l.c) l.k l.w × (l.k % 8 ≡ 0)
-
-abbrev pub decreases-loop-k : goal.decreases-loop-k
-decreases-loop-k l = l.h - l.k
+abbrev pub invariant-loop-q : goal.invariant-loop-q
+invariant-loop-q l = Stored l.initial.w l.d l.h (box_plus l.initial.w l.a l.b l.c) (8 * l.q) l.w

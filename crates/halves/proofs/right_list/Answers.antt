@@ -9,7 +9,6 @@ use Rattle.words.specs.Words.{Finite, word}
 use Rattle.halves.specs.Halves.{plus_at, plus_box}
 use Rattle.halves.proofs.Laws.{box-certain, plus-box_certain}
 use Rattle.words.proofs.Store.{write_ext}
-use Rattle.halves.proofs.Steps.{all-four}
 use Rattle.halves.proofs.right_list.Goals as goal
 
 pub plus_at-requires : goal.plus_at-requires
@@ -18,19 +17,6 @@ plus_at-requires c =
     let certain = c.requires.holds c.if-certain.true in
     record { h_in_bounds = (omega arith, omega arith, omega arith); apart = (inr (omega arith), inr (omega arith)); finite_sums = λ k lt. subst (λ (z : ℤ). Finite z (word a.w.now (a.x + a.h + k))) (box-certain a.w.now a.x a.l k (certain k lt) (c.requires.words.0 k lt)) (c.requires.words.2 k lt) }
 
-pub right_eights-requires : goal.right_eights-requires
-right_eights-requires c =
-    record { sources = (record { held = record { fit = (omega arith, omega arith, omega arith, omega arith) }; apart = (inr (omega arith), inr (omega arith), inr (omega arith)) }, c.if-h-eq0.true); words = c.requires.words }
-
-pub right_four-requires : goal.right_four-requires
-right_four-requires c =
-    let four = c.if-h-eq4.true in
-    record { inside = record { fit = (omega arith, omega arith, omega arith, omega arith) }; by_index = λ i low high. (c.requires.words.0 i (omega arith), c.requires.words.1 i (omega arith), c.requires.words.2 i (omega arith)) }
-
-pub plus_box-requires : goal.plus_box-requires
-plus_box-requires c =
-    record { h_in_bounds = (omega arith, omega arith, omega arith, omega arith); apart = (inr (omega arith), inr (omega arith)); words = c.requires.words }
-
 pub returns-then-certain : goal.returns-then-certain
 returns-then-certain c =
     let a = c.args in
@@ -38,14 +24,3 @@ returns-then-certain c =
     c.plus_at.ensures
     ∙ write_ext (pos 0) a.w.now a.c a.h (plus_at a.w.now a.x (a.x + a.h)) (plus_box a.w.now a.x a.l (a.x + a.h))
     (λ k lt. sym (plus-box_certain a.w.now a.x a.l (a.x + a.h) k (certain k lt) (c.requires.words.0 k lt)))
-
-pub returns-then-h-eq4 : goal.returns-then-h-eq4
-returns-then-h-eq4 c =
-    let a = c.args in
-    c.right_four.ensures ∙ all-four a.w.now a.c a.h (plus_box a.w.now a.x a.l (a.x + a.h)) c.if-h-eq4.true
-
-pub returns-then-h-eq0 : goal.returns-then-h-eq0
-returns-then-h-eq0 c = c.right_eights.ensures
-
-pub returns-else-h-eq4 : goal.returns-else-h-eq4
-returns-else-h-eq4 c = c.plus_box.ensures

@@ -8,18 +8,16 @@ use Rattle.model.specs.Lists.{at_most}
 use Rattle.inputs.proofs.Folds.{at-most-more, at-most-end}
 use Rattle.inputs.proofs.largest.Goals as goal
 
-pub loop-i-init : goal.loop-i-init
-loop-i-init c = (search rules, λ top. rw (leb-zero top))
+pub loop-b-init : goal.loop-b-init
+loop-b-init c = λ top. rw (leb-zero top)
 
-pub loop-i-preserved : goal.loop-i-preserved
-loop-i-preserved c =
-    let a = c.args in (
-      search rules,
-      λ top. c.loop-i.invariant.1 top ∙ at-most-more top c.loop-i.most a.bytes.now c.loop-i.i (search rules)
-          ∙ ap (λ (m : ℕ). leb m top && at_most top (drop (c.loop-i.i + 1) a.bytes.now)) (sym c.larger-most.ensures),
-    )
+pub loop-b-preserved : goal.loop-b-preserved
+loop-b-preserved c =
+    let a = c.args in
+    λ top. c.loop-b.invariant top ∙ at-most-more top c.loop-b.most a.bytes.now c.loop-b.b-index (search rules)
+    ∙ ap (λ (m : ℕ). leb m top && at_most top (drop (c.loop-b.b-index + 1) a.bytes.now)) (sym c.larger-most.ensures)
 
 pub returns : goal.returns
 returns c =
     let a = c.args in
-    λ top. sym (c.loop-i.invariant.1 top ∙ at-most-end top c.loop-i.most a.bytes.now c.loop-i.i (search rules))
+    λ top. sym (c.loop-b.invariant top ∙ at-most-end top c.loop-b.most a.bytes.now c.loop-b.b-index (search rules))

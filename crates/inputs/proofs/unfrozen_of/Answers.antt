@@ -10,18 +10,17 @@ use Rattle.inputs.proofs.unfrozen_of.Goals as goal
 
 pub overflow_add-k : goal.overflow_add-k
 overflow_add-k c =
-    omega (arith, c.unfrozen_bit-k.ensures, bit-small (is_unfrozen (get_or c.args.mask.now c.loop-i.i 0)))
+    omega (arith, c.unfrozen_bit-k.ensures, bit-small (is_unfrozen (get_or c.args.mask.now c.loop-byte.byte-index 0)))
 
-pub loop-i-preserved : goal.loop-i-preserved
-loop-i-preserved c =
+pub loop-byte-preserved : goal.loop-byte-preserved
+loop-byte-preserved c =
     let mask = c.args.mask.now in (
-      search rules,
-      omega (arith, c.unfrozen_bit-k.ensures, bit-small (is_unfrozen (get_or mask c.loop-i.i 0))),
-      c.loop-i.invariant.2 ∙ unfrozen-more c.loop-i.k mask c.loop-i.i (search rules)
-          ∙ ap (λ (b : ℕ). c.loop-i.k + b + unfrozen (drop (c.loop-i.i + 1) mask)) (sym c.unfrozen_bit-k.ensures),
+      omega (arith, c.unfrozen_bit-k.ensures, bit-small (is_unfrozen (get_or mask c.loop-byte.byte-index 0))),
+      c.loop-byte.invariant.1 ∙ unfrozen-more c.loop-byte.k mask c.loop-byte.byte-index (search rules)
+          ∙ ap (λ (b : ℕ). c.loop-byte.k + b + unfrozen (drop (c.loop-byte.byte-index + 1) mask)) (sym c.unfrozen_bit-k.ensures),
     )
 
 pub returns : goal.returns
 returns c =
     let a = c.args in
-    sym (c.loop-i.invariant.2 ∙ unfrozen-end c.loop-i.k a.mask.now c.loop-i.i (search rules))
+    sym (c.loop-byte.invariant.1 ∙ unfrozen-end c.loop-byte.k a.mask.now c.loop-byte.byte-index (search rules))

@@ -19,10 +19,6 @@ returns c =
     back c.box_words-2.type_inv ∙ c.box_words-2.ensures ∙ ap₂ box_word (to_z-of_z c.ranges.a) inner-is
     ∙ box_word-is c.args.a (box_ℤ c.args.b c.args.c) c.requires.0 inner-word ∙ sym (box_ℤ-is c.args.a (box_ℤ c.args.b c.args.c))
 
-pub box_words-requires : goal.box_words-requires
-box_words-requires c =
-    record { word = subst Word (sym (to_z-of_z c.ranges.b)) c.requires.1; word_2 = subst Word (sym (to_z-of_z c.ranges.c)) c.requires.2 }
-
 pub box_words-requires-2 : goal.box_words-requires-2
 box_words-requires-2 c =
     let inner-is : let a = c.args in to_z w32 (of_z w32 c.box_words.result) ≡ box_ℤ a.b a.c = back c.box_words.type_inv ∙ c.box_words.ensures ∙ ap₂ box_word (to_z-of_z c.ranges.b) (to_z-of_z c.ranges.c)

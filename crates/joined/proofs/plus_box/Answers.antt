@@ -6,7 +6,6 @@ use mir.Val.{SFits, to_z, of_z}
 use mir.Syntax.{w32}
 use mir.Facts.{to_z-of_z}
 use Rattle.model.proofs.Bounds.{abs_plus}
-use Rattle.words.specs.Words.{Word}
 use Rattle.words.proofs.Signed.{back, fits_word}
 use Rattle.joined.specs.Joins.{box_three}
 use Rattle.joined.proofs.Sizes.{box-three_first}
@@ -19,9 +18,6 @@ returns c =
     let sum_fits : let a = c.args in SFits w32 (to_z w32 (of_z w32 a.t) +ℤ to_z w32 (of_z w32 c.box_three.result)) = let a = c.args in
     subst (SFits w32) (sym sum_is) (fits_word _ (omega (arith, abs_plus a.t (box_three a.a a.b a.c), box-three_first a.a a.b a.c, c.requires))) in
     to_z-of_z sum_fits ∙ sum_is
-
-pub box_three-requires : goal.box_three-requires
-box_three-requires c = (subst Word (sym (to_z-of_z c.ranges.a)) (omega (arith, c.requires)), subst Word (sym (to_z-of_z c.ranges.b)) (omega (arith, c.requires)), subst Word (sym (to_z-of_z c.ranges.c)) (omega (arith, c.requires)))
 
 pub overflow_add-result : goal.overflow_add-result
 overflow_add-result c =

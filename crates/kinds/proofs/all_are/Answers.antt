@@ -1,5 +1,5 @@
 use mathlib.Core.Path.{sym, ◌∙◌, ap}
-use mathlib.Core.Bool.{Bool, ◌&&◌}
+use mathlib.Core.Bool.{◌&&◌}
 use lib.Dec.{eqb}
 use Prim.Native.Nat.{ℕ, ◌+◌}
 use borrow.Author.Rules.{rules}
@@ -9,15 +9,14 @@ use Rattle.kinds.specs.Runs.{all_are}
 use Rattle.kinds.proofs.Runs.{alike-more, alike_end}
 use Rattle.kinds.proofs.all_are.Goals as goal
 
-pub loop-i-preserved : goal.loop-i-preserved
-loop-i-preserved c =
-    let a = c.args in (
-      search rules,
-      c.loop-i.invariant.1 ∙ alike-more a.byte c.loop-i.alike a.part.now c.loop-i.i (search rules)
-          ∙ ap (λ (z : Bool). z && all_are a.byte (frozen_to_zero (drop (c.loop-i.i + 1) a.part.now))) (sym (c.both-alike.ensures ∙ ap (λ (b : ℕ). c.loop-i.alike && eqb b a.byte) c.frozen_byte.ensures)),
-    )
+pub loop-position-preserved : goal.loop-position-preserved
+loop-position-preserved c =
+    let a = c.args in
+    let i = c.loop-position.position-index in
+    c.loop-position.invariant ∙ alike-more a.byte c.loop-position.alike a.part.now i (search rules)
+    ∙ ap (λ (x : ℕ). (c.loop-position.alike && eqb x a.byte) && all_are a.byte (frozen_to_zero (drop (i + 1) a.part.now))) (sym c.frozen_byte.ensures)
 
 pub returns : goal.returns
 returns c =
     let a = c.args in
-    sym (c.loop-i.invariant.1 ∙ alike_end a.byte c.loop-i.alike a.part.now c.loop-i.i (search rules))
+    sym (c.loop-position.invariant ∙ alike_end a.byte c.loop-position.alike a.part.now c.loop-position.position-index (search rules))

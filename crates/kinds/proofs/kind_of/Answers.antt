@@ -1,14 +1,13 @@
 -- `kinds::kind_of` meets its contract: a mask is of some kind exactly if it is the run of the kind that its ends tell. Assumes nothing.
 use mathlib.Core.Path.{sym, ◌∙◌}
-use native.Mathlib.Omega.{arith}
-use Rattle.kinds.proofs.Runs.{empty, inside, of_run, no_run}
+use borrow.Author.Tests.{eqb-true}
+use lib.ListN.{length}
+use Rattle.kinds.proofs.Runs.{empty, of_run, no_run}
 use Rattle.kinds.proofs.kind_of.Goals as goal
 
-pub returns-then-mask-eq0 : goal.returns-then-mask-eq0
-returns-then-mask-eq0 c = empty c.args.mask.now c.if-mask-eq0.true
-
-pub is_run-requires : goal.is_run-requires
-is_run-requires c = (omega (arith, c.if-mask-eq0.false), omega (arith, inside c.args.mask.now c.candidate_at_ends-kind.ensures))
+pub returns-then-is_empty : goal.returns-then-is_empty
+returns-then-is_empty c =
+    empty c.args.mask.now (eqb-true (length c.args.mask.now) 0 (sym c.is_empty.ensures ∙ c.if-is_empty.true))
 
 pub returns-then-is_run : goal.returns-then-is_run
 returns-then-is_run c =

@@ -1,41 +1,22 @@
-use mathlib.Core.Path.{◌≡◌, sym, ap, ◌∙◌}
-use mathlib.Core.Bool.{false}
-use Prim.Native.Nat.{ℕ, ◌+◌, ◌-◌, ◌≤◌, ◌<◌}
+-- `leaves::all_frozen` meets its contract: no byte of the part is that of an unfrozen position. Assumes nothing.
+use mathlib.Core.Path.{◌≡◌, sym, ◌∙◌}
+use Prim.Native.Nat.{ℕ, ◌+◌, ◌-◌, ◌<◌}
 use native.Mathlib.Omega.{arith}
-use native.Mathlib.Decide.{dec_lt}
-use lib.ListN.{get_or}
-use borrow.Author.Tests.{eq-eqb, ne_eqb}
-use Rattle.model.specs.Encoding.{is_unfrozen}
-use Rattle.leaves.proofs.Trees.{not-all, is_all}
+use lib.ListN.{length, get_or, take, drop, length-drop}
+use lib.Seq.{length-take-le, get_or-take, get_or-drop}
+use mathlib.Core.List.{List}
+use Rattle.std.proofs.Common.{rules, ◌≢◌, ◌↔◌, IsTrue, EachIndex}
+use Rattle.leaves.proofs.Trees.{all_frozen-test}
 use Rattle.leaves.proofs.all_frozen.Goals as goal
-
-pub loop-k-init : goal.loop-k-init
-loop-k-init c = (omega arith, λ j le lt. let z : ⊥ = omega arith in absurd z)
-
-pub returns-then-mask-from-eq-UNFROZEN : goal.returns-then-mask-from-eq-UNFROZEN
-returns-then-mask-from-eq-UNFROZEN c =
-    let a = c.args in
-    let l = c.loop-k in
-    let some = c.loop-k-test.true in
-    sym (not-all a.mask.now a.from a.size (l.k - 1) (omega arith) (eq-eqb (get_or a.mask.now (a.from + (l.k - 1)) 0) 0 c.if-mask-from-eq-UNFROZEN.true))
-
-pub loop-k-preserved : goal.loop-k-preserved
-loop-k-preserved c =
-    let a = c.args in
-    let l = c.loop-k in
-    (omega arith, λ j le lt. at j l.k le lt l.invariant.1 (ne_eqb (get_or a.mask.now (a.from + (l.k - 1)) 0) 0 c.if-mask-from-eq-UNFROZEN.false))
-  where
-    at : (j : ℕ) → let a = c.args in (k : ℕ) → k - 1 ≤ j → j < a.size
-        → ((j : ℕ) → k ≤ j → j < a.size → is_unfrozen (get_or a.mask.now (a.from + j) 0) ≡ false) → is_unfrozen (get_or a.mask.now (a.from + (k - 1)) 0) ≡ false
-        → is_unfrozen (get_or a.mask.now (a.from + j) 0) ≡ false
-    at j k le lt rest here = go (dec_lt (k - 1) j)
-      where
-        go : Dec (k - 1 < j) → is_unfrozen (get_or c.args.mask.now (c.args.from + j) 0) ≡ false
-        go (yes h) = rest j (omega arith) lt
-        go (no h) = ap (λ (i : ℕ). is_unfrozen (get_or c.args.mask.now (c.args.from + i) 0)) (let e : j ≡ k - 1 = omega arith in e) ∙ here
 
 pub returns : goal.returns
 returns c =
     let a = c.args in
-    let l = c.loop-k in
-    sym (is_all a.mask.now a.from a.size (λ k lt. l.invariant.1 k (omega (arith, c.loop-k-test.false)) lt))
+    let size : a.from + a.size - a.from ≡ a.size = omega arith in
+    let part : List ℕ = take (a.from + a.size - a.from) (drop a.from a.mask.now) in
+    let each : IsTrue c.all.result ↔ EachIndex part (λ k. get_or part k 0 ≢ 0) = search rules in
+    let long : length part ≡ a.size = length-take-le (a.from + a.size - a.from) (drop a.from a.mask.now) (omega (arith, length-drop a.from a.mask.now)) ∙ size in
+    let at : (k : ℕ) → k < a.size → get_or part k 0 ≡ get_or a.mask.now (a.from + k) 0 = λ k lt. get_or-take _ (drop a.from a.mask.now) k 0 (omega arith) ∙ get_or-drop a.from a.mask.now k 0 in
+    all_frozen-test c.all.result a.mask.now a.from a.size
+    (λ t k lt e. each.0 t k (omega arith) (at k lt ∙ e))
+    (λ none. each.1 (λ k lt e. let below : k < a.size = omega arith in none k below (sym (at k below) ∙ e)))

@@ -1,22 +1,12 @@
 -- `leaves::leaf_values` meets its contract: each step hands on the words that the next one asks for. Assumes nothing.
-use mathlib.Core.Path.{◌≡◌, sym, ◌∙◌}
-use native.Mathlib.Omega.{arith}
+use mathlib.Core.Path.{◌≡◌}
 use lib.IntN.{neg_ℤ}
 use Rattle.model.specs.Lists.{on_ones}
 use Rattle.model.specs.Encoding.{known_word}
 use Rattle.scan.specs.Space.{llrs_loaded}
-use Rattle.scan.proofs.Keep.{row-start}
 use Rattle.scan.proofs.Flipped.{loaded-is}
 use Rattle.leaves.proofs.Rounds.{ready, passed}
 use Rattle.leaves.proofs.leaf_values.Goals as goal
-
-pub overflow_mul-len : goal.overflow_mul-len
-overflow_mul-len c =
-    omega (arith, row-start c.args.len c.args.stage 1, row-start c.args.len c.args.stage 3)
-
-pub load-requires : goal.load-requires
-load-requires c =
-    (omega (arith, row-start c.args.len c.args.stage 1, row-start c.args.len c.args.stage 3), c.requires.frozen_word.long ∙ c.requires.passable.decodable.positions ∙ sym c.requires.passable.decodable.values)
 
 pub sweeps-requires : goal.sweeps-requires
 sweeps-requires c =
@@ -31,6 +21,3 @@ returns c =
     c.load.new.work ≡ llrs_loaded a.len a.stage (on_ones neg_ℤ (known_word a.stage a.mask.now) a.llrs.now) a.work.now = loaded-is c.args.llrs.now c.requires.passable.decodable c.requires.frozen_word c.args.work.now c.load.new.work c.load.ensures in
     let a = c.args in
     passed a.mask.now a.llrs.now a.count a.len a.stage a.work.now c.load.new.work c.requires.passable loaded c.sweeps.new.work c.sweeps.ensures
-
-pub overflow_add-stage : goal.overflow_add-stage
-overflow_add-stage c = omega arith

@@ -25,10 +25,6 @@ right_two-b-requires c =
     let long = left-long in
     record { l_bound = (omega arith, omega arith, omega arith, (back c.struct_told-3-1.given.0.1 ∙ c.pair-p.ensures.1.0, back c.struct_told-4-1.given.1.0.1 ∙ c.pair-p.ensures.1.1)); words = running.right-asked left_of }
 
-pub overflow_add-from : goal.overflow_add-from
-overflow_add-from c =
-    record { fits = omega (arith, c.requires.0.within, c.requires.0.rows, c.ranges.list) }
-
 pub pair-requires : goal.pair-requires
 pair-requires c =
     let running : let a = c.args in Run a.mask.now a.len 2 a.from a.list a.first a.work.now 2 1 (a.list + 4) (a.len + a.from) (2 * a.len + a.from) = run-four c.requires.0 c.requires.1 in
@@ -45,12 +41,6 @@ message_by_list-requires c =
     let right-long : length c.pair.new.work ≡ length c.args.work.now = c.pair.auto.work ∙ c.right_two-b.auto.work ∙ left-long in
     let long = right-long in
     record { places = (record { children = omega arith; message = omega arith; list = omega arith }, omega arith); combinable = running.message-asked left_of right_of }
-
-pub shape_of-work : goal.shape_of-work
-shape_of-work c =
-    let left-long : length c.pair-p.new.work ≡ length c.args.work.now = c.pair-p.auto.work ∙ c.left_two-a.auto.work in
-    let right-long : length c.pair.new.work ≡ length c.args.work.now = c.pair.auto.work ∙ c.right_two-b.auto.work ∙ left-long in
-    c.message_by_list.auto.w ∙ right-long
 
 pub returns : goal.returns
 returns c =

@@ -1,61 +1,63 @@
 -- `masks::mask_for_distance` meets its contract: a refused call leaves the buffer; otherwise the row of the unfrozen position that ranks last decides. Assumes nothing.
-use mathlib.Core.Path.{◌≡◌, refl, sym, ap, ◌∙◌}
-use mathlib.Core.Bool.{cond}
-use mathlib.Core.List.{List}
-use Prim.Native.Nat.{ℕ}
-use native.Mathlib.Omega.{arith}
+use Rattle.std.proofs.Common.{sym, ap, ◌∙◌, length, arith, false, true}
 use lib.Dec.{leb}
-use lib.ListN.{length}
-use Rattle.model.specs.Lists.{tabulate, over}
-use Rattle.model.specs.Masks.{weight_byte}
-use Rattle.model.specs.Distance.{distance_mask_after}
+use borrow.Author.Tests.{le-leb, lt-leb}
 use Rattle.model.proofs.Refusals.{length-small}
-use Rattle.masks.proofs.Calls.{fits_distance, distance_refused, distance_answered}
+use Rattle.masks.proofs.Calls.{fits_distance, none-found, distance_refused, distance_answered}
 use Rattle.masks.proofs.mask_for_distance.Goals as goal
-use Rattle.std.proofs.lemmas.Bool.Decides.{nat_tests}
 
-pub returns-then-number-ne0 : goal.returns-then-number-ne0
-returns-then-number-ne0 c =
+pub returns-in_err-distance_tests-clause-found : goal.returns-in_err-distance_tests-clause-found
+returns-in_err-distance_tests-clause-found c =
     let a = c.args in
-    let r = distance_refused a.size a.k a.d a.mask.now c.distance_tests-number.ensures c.if-number-ne0.true c.refused_by.result c.refused_by.ensures in
-    record { result_value = r.0; result_value_2 = r.1.0; mask_after = r.1.1 }
+    let r = distance_refused a.size a.k a.d a.mask.now c.in_err-distance_tests.field-0.0 c.in_err-distance_tests.ensures in
+    none-found c.from_residual.result c.from_residual.ensures.0 ∙ r.0
+
+pub returns-in_err-distance_tests-clause-mask_after : goal.returns-in_err-distance_tests-clause-mask_after
+returns-in_err-distance_tests-clause-mask_after c =
+    let a = c.args in
+    (distance_refused a.size a.k a.d a.mask.now c.in_err-distance_tests.field-0.0 c.in_err-distance_tests.ensures).1
 
 pub last_ranked-requires : goal.last_ranked-requires
 last_ranked-requires c =
     let a = c.args in
-    let f = fits_distance a.size a.k a.d (length a.mask.now) (sym c.distance_tests-number.ensures ∙ c.if-number-ne0.false) in
+    let f = fits_distance a.size a.k a.d (length a.mask.now) (sym c.in_ok-distance_tests.ensures) in
     (length-small a.size f.fits.sized, f.one, f.fits.few)
 
 pub row_weight-requires : goal.row_weight-requires
 row_weight-requires c =
     let a = c.args in
-    let f = fits_distance a.size a.k a.d (length a.mask.now) (sym c.distance_tests-number.ensures ∙ c.if-number-ne0.false) in
+    let f = fits_distance a.size a.k a.d (length a.mask.now) (sym c.in_ok-distance_tests.ensures) in
     omega (arith, c.last_ranked.ensures.0, length-small a.size f.fits.sized)
 
 pub choose-requires : goal.choose-requires
 choose-requires c =
     let a = c.args in
-    let f = fits_distance a.size a.k a.d (length a.mask.now) (sym c.distance_tests-number.ensures ∙ c.if-number-ne0.false) in
+    let f = fits_distance a.size a.k a.d (length a.mask.now) (sym c.in_ok-distance_tests.ensures) in
     (length-small a.size f.fits.sized, f.fits.roomy)
 
--- the values where the number is 0, by the test of the row
-pub returns-clause-result_value_2 : goal.returns-clause-result_value_2
-returns-clause-result_value_2 c =
+-- a mask is written
+pub returns-then-found-clause-found : goal.returns-then-found-clause-found
+returns-then-found-clause-found c =
     let a = c.args in
-    let z = sym c.distance_tests-number.ensures ∙ c.if-number-ne0.false in
-    let made : List ℕ = over (tabulate a.size (weight_byte a.size a.k)) a.mask.now in
-    (distance_answered a.size a.k a.d a.mask.now z c.last_ranked.result c.last_ranked.ensures.0 c.last_ranked.ensures.1
-    (leb a.d c.row_weight.result) (ap (leb a.d) c.row_weight.ensures.value) c.answer_of.result c.answer_of.ensures
-    (cond (leb a.d c.row_weight.result) made a.mask.now) refl).1.0
+    (distance_answered a.size a.k a.d a.mask.now (sym c.in_ok-distance_tests.ensures) c.last_ranked.result c.last_ranked.ensures.0 c.last_ranked.ensures.1
+    (leb a.d c.row_weight.result) (ap (leb a.d) c.row_weight.ensures.value)).0
 
--- the buffer, which is written or as it was
-pub returns-clause-mask_after : goal.returns-clause-mask_after
-returns-clause-mask_after c =
+pub returns-then-found-clause-mask_after : goal.returns-then-found-clause-mask_after
+returns-then-found-clause-mask_after c =
     let a = c.args in
-    let z = sym c.distance_tests-number.ensures ∙ c.if-number-ne0.false in
-    let made : List ℕ = over (tabulate a.size (weight_byte a.size a.k)) a.mask.now in
-    let t : cond (leb a.d c.row_weight.result) made a.mask.now ≡ distance_mask_after a.size a.k a.d a.mask.now =
-    (distance_answered a.size a.k a.d a.mask.now z c.last_ranked.result c.last_ranked.ensures.0 c.last_ranked.ensures.1
-    (leb a.d c.row_weight.result) (ap (leb a.d) c.row_weight.ensures.value) c.answer_of.result c.answer_of.ensures
-    (cond (leb a.d c.row_weight.result) made a.mask.now) refl).1.1 in
-    rw (← t) (grind (arith, nat_tests))
+    c.choose.ensures
+    ∙ (distance_answered a.size a.k a.d a.mask.now (sym c.in_ok-distance_tests.ensures) c.last_ranked.result c.last_ranked.ensures.0 c.last_ranked.ensures.1
+    true (sym (le-leb a.d c.row_weight.result c.if-found.true) ∙ ap (leb a.d) c.row_weight.ensures.value)).1
+
+-- none is
+pub returns-else-found-clause-found : goal.returns-else-found-clause-found
+returns-else-found-clause-found c =
+    let a = c.args in
+    (distance_answered a.size a.k a.d a.mask.now (sym c.in_ok-distance_tests.ensures) c.last_ranked.result c.last_ranked.ensures.0 c.last_ranked.ensures.1
+    (leb a.d c.row_weight.result) (ap (leb a.d) c.row_weight.ensures.value)).0
+
+pub returns-else-found-clause-mask_after : goal.returns-else-found-clause-mask_after
+returns-else-found-clause-mask_after c =
+    let a = c.args in
+    (distance_answered a.size a.k a.d a.mask.now (sym c.in_ok-distance_tests.ensures) c.last_ranked.result c.last_ranked.ensures.0 c.last_ranked.ensures.1
+    false (sym (lt-leb a.d c.row_weight.result c.if-found.false) ∙ ap (leb a.d) c.row_weight.ensures.value)).1

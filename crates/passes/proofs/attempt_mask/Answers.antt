@@ -26,6 +26,3 @@ returns c =
 
 pub loop-i-init : goal.loop-i-init
 loop-i-init c = none-stored 0 _ _ _
-
-pub shape_of-trial : goal.shape_of-trial
-shape_of-trial c = c.loop-i.invariant.long

@@ -10,6 +10,3 @@ use Rattle.passes.proofs.attempt_mask.Given as goal
 abbrev pub invariant-loop-i : goal.invariant-loop-i
 invariant-loop-i l =
     Stored l.initial.trial l.trial (length l.mask) l.i (λ j. cond (ltb j l.flipped) (frozen_to (get_or l.bits j 0)) (cond (eqb j l.flipped) (frozen_to (1 - get_or l.bits j 0)) (get_or l.mask j 0)))
-
-abbrev pub decreases-loop-i : goal.decreases-loop-i
-decreases-loop-i l = length l.mask - l.i

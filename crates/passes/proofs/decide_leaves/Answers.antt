@@ -1,10 +1,7 @@
-use mathlib.Core.Path.{◌≡◌, refl, sym, ap, ap₂, ◌∙◌}
-use Prim.Native.Nat.{ℕ, ◌+◌}
-use native.Mathlib.Omega.{arith}
-use lib.IntN.{ℤ}
-use mir.Val.{to_z, of_z}
+use Rattle.std.proofs.Common.{rules, arith, ◌≡◌, ◌+◌, ◌<◌, ◌^◌, ◌∙◌, ℕ, ℤ, refl, sym, ap, ap₂, length, get_or}
+use lib.Signed.{mag}
 use mir.Syntax.{w32}
-use lib.ListN.{length, get_or}
+use mir.Val.{to_z, of_z}
 use Rattle.model.specs.Lists.{tabulate}
 use Rattle.model.specs.Soft.{◌at◌, soft_of}
 use Rattle.model.specs.Attempts.{leaf_bit, leaf_bits}
@@ -16,14 +13,17 @@ use Rattle.flips.proofs.Places.{none-stored, one-stored, next-kept, all-stored}
 use Rattle.passes.proofs.Passing.{bit_is}
 use Rattle.passes.proofs.decide_leaves.Goals as goal
 
+pub loop-i-init : goal.loop-i-init
+loop-i-init c = none-stored 0 _ _ _
+
 pub loop-i-preserved : goal.loop-i-preserved
 loop-i-preserved c =
     let l = c.loop-i in
     let a = c.args in
-    let more = c.loop-i-test.true in
     let long = l.invariant.long in
+    let fits : mag (word a.values.now l.i) < 2 ^ 31 = search rules in
     one-stored 0 l.invariant (omega arith) c.leaf_bit.result
-    (c.leaf_bit.ensures ∙ bit_is (get_or l.bits l.i 0) (to_z w32 (of_z w32 (word a.values.now l.i))) ∙ ap₂ (λ (m : ℕ) (z : ℤ). leaf_bit m (soft_of z)) (next-kept 0 l.invariant) (back {z = word a.values.now l.i} c.leaf_bit-arg-1.given))
+    (c.leaf_bit.ensures ∙ bit_is (get_or l.bits l.i 0) (to_z w32 (of_z w32 (word a.values.now l.i))) ∙ ap₂ (λ (m : ℕ) (z : ℤ). leaf_bit m (soft_of z)) (next-kept 0 l.invariant) (back {z = word a.values.now l.i} fits))
 
 pub returns : goal.returns
 unfolding leaf_bits
@@ -36,9 +36,3 @@ returns c =
     (λ j h.
     ap (leaf_bit (get_or bits j 0)) (ap (λ (i : ℕ). soft_of (word a.values.now i)) (let q : j ≡ 0 + j = omega arith in q) ∙ sym (soft-at a.values.now 0 (length bits) j h))
     ∙ sym (get_d_tabulate (length bits) f j 0 h))
-
-pub loop-i-init : goal.loop-i-init
-loop-i-init c = none-stored 0 _ _ _
-
-pub shape_of-bits : goal.shape_of-bits
-shape_of-bits c = c.loop-i.invariant.long

@@ -16,8 +16,8 @@ pub returns : goal.returns
 returns c =
     let a = c.args in
     let d : Decoded = decoded (map soft_of a.soft.now) a.hard.now a.payload.now a.check a.undecided in
-    let from3 = put_then c.put_bits-c.ensures (put_then c.put_payload-d.ensures (put_then c.put_three-e.ensures (put_then c.put_digits-f.ensures c.put_byte.ensures))) in
-    let check = ap (λ (b : ℕ). ok_pieces (nat_text a.cycles) (spaced (map soft_text d.soft)) (bits_text a.hard.now) (payload_text a.payload.now) b (nat_text a.undecided)) c.bit_glyph-g.ensures in
+    let from3 = put_then c.put_bits-d.ensures (put_then c.put_payload-e.ensures (put_then c.put_text-f.ensures (put_then c.put_digits-g.ensures c.put_byte.ensures))) in
+    let check = ap (λ (b : ℕ). ok_pieces (nat_text a.cycles) (spaced (map soft_text d.soft)) (bits_text a.hard.now) (payload_text a.payload.now) b (nat_text a.undecided)) c.bit_glyph.ensures in
     printed (12 * length a.soft.now + length a.hard.now + length a.payload.now + 25)
-    (ok-size a.cycles (length a.soft.now) d c.ranges.cycles.fits c.ranges.undecided.fits c.put_softs-b.ensures.soft_len_bound)
-    (put_as (check ∙ ok-pieces a.cycles d) (put_then c.put_head-a.ensures (put_then c.put_softs-b.ensures.put from3)))
+    (ok-size a.cycles (length a.soft.now) d c.ranges.cycles.fits c.ranges.undecided.fits c.put_softs-c.ensures.soft_len_bound)
+    (put_as (check ∙ ok-pieces a.cycles d) (put_then (put_then c.put_text-a.ensures c.put_digits-b.ensures) (put_then c.put_softs-c.ensures.put from3)))

@@ -8,4 +8,5 @@ use Rattle.printer.proofs.print_refusal.Goals as goal
 pub returns : goal.returns
 returns c =
     let n = c.args.number in
-    printed 14 (no_size n c.ranges.number.fits) (put_as (no_pieces_lem n) (put_then c.put_head-a.ensures c.put_byte.ensures))
+    printed 14 (no_size n c.ranges.number.fits)
+    (put_as (no_pieces_lem n) (put_then (put_then c.put_text-a.ensures c.put_digits-b.ensures) c.put_byte.ensures))

@@ -2,19 +2,13 @@ use mathlib.Core.Path.{sym, ◌∙◌}
 use native.Mathlib.Omega.{arith}
 use lib.ListN.{length-map, get_or-map}
 use Rattle.fields.specs.Grammar.{digit}
-use Rattle.fields.proofs.Stores.{storing_start, storing_on, storing_end}
+use Rattle.fields.proofs.Stores.{storing_on, storing_end}
 use Rattle.reader.proofs.store_digits.Goals as goal
-
-pub loop-i-init : goal.loop-i-init
-loop-i-init c = storing_start _ _
 
 pub loop-i-preserved : goal.loop-i-preserved
 loop-i-preserved c =
     let s = c.args.field.now in
     storing_on c.loop-i.invariant 0 c.digit_of.result (omega (arith, length-map s digit)) (c.digit_of.ensures ∙ sym (get_or-map digit s c.loop-i.i 0))
-
-pub shape_of-mask : goal.shape_of-mask
-shape_of-mask c = c.loop-i.invariant.kept
 
 pub returns : goal.returns
 returns c =

@@ -9,14 +9,14 @@ use Rattle.model.specs.Sent.{reordered}
 use Rattle.reorder.proofs.Places.{is-four, sized_of}
 use Rattle.reorder.proofs.reorder_words.Goals as goal
 
-pub four_words-requires : goal.four_words-requires
-four_words-requires c =
+pub four-requires : goal.four-requires
+four-requires c =
     let four = is-four c.args.stage (length c.args.from.now) c.requires.0 c.requires.1 c.requires.2 c.if-stage-eq2.true in
     (omega (arith, four), omega (arith, four, c.requires.2, c.requires.3))
 
 pub returns-then-stage-eq2 : goal.returns-then-stage-eq2
 returns-then-stage-eq2 c =
-    c.four_words.ensures ∙ ap (λ (n : ℕ). over (reordered (pos 0) n c.args.from.now) c.args.to.now) (sym c.if-stage-eq2.true)
+    c.four.ensures (pos 0) ∙ ap (λ (n : ℕ). over (reordered (pos 0) n c.args.from.now) c.args.to.now) (sym c.if-stage-eq2.true)
 
 pub gather_words-requires : goal.gather_words-requires
 gather_words-requires c =

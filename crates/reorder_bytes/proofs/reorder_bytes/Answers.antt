@@ -22,8 +22,8 @@ spread_bytes-requires c =
     let most = fits_array c.args.stage (length c.args.bytes.now) c.requires.0 c.requires.1 c.requires.2 in
     (omega (arith, most), omega arith, omega (arith, most))
 
-pub move_bytes-requires : goal.move_bytes-requires
-move_bytes-requires c =
+pub move_eights-requires : goal.move_eights-requires
+move_eights-requires c =
     let size = length c.args.bytes.now in
     let most = fits_array c.args.stage size c.requires.0 c.requires.1 c.requires.2 in
     (sized_of c.args.stage size c.requires.0 c.requires.1 c.requires.2 c.if-stage-eq2.false, search rules, omega arith)
@@ -32,5 +32,5 @@ pub returns : goal.returns
 returns c =
     let old = c.args.bytes.now in
     let sized = sized_of c.args.stage (length old) c.requires.0 c.requires.1 c.requires.2 c.if-stage-eq2.false in
-    moved-spread 0 c.args.stage (length old / 8) sized old c.spread_bytes.new.spread old _ c.spread_bytes.ensures c.move_bytes.ensures
+    moved-spread 0 c.args.stage (length old / 8) sized old c.spread_bytes.new.spread old _ c.spread_bytes.ensures (c.move_eights.ensures 0)
     ∙ reordered-whole 0 c.args.stage old old c.requires.2

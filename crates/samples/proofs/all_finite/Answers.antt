@@ -1,25 +1,13 @@
-use mathlib.Core.Path.{ap, ◌∙◌}
-use mathlib.Core.Bool.{Bool, ◌&&◌}
-use Prim.Native.Nat.{◌+◌}
-use lib.ListN.{get_or, drop}
-use lib.Ieee.{nan}
-use borrow.Author.Rules.{rules}
-use Rattle.model.specs.Samples.{is_finite}
+use Rattle.std.proofs.Common.{sym, ap, ◌∙◌, Bool, ◌&&◌, drop, ◌+◌}
 use Rattle.samples.specs.Cases.{all_finite}
-use Rattle.samples.proofs.Inputs.{goes_on, ends, finite-from, finite-end}
+use Rattle.samples.proofs.Inputs.{finite-more, finite-end}
 use Rattle.samples.proofs.all_finite.Goals as goal
 
-pub loop-i-preserved : goal.loop-i-preserved
-loop-i-preserved c =
+pub loop-y-preserved : goal.loop-y-preserved
+loop-y-preserved c =
     let ys = c.args.samples.now in
-    let i = c.loop-i.i in (
-      search rules,
-      goes_on (all_finite ys) c.loop-i.ok (all_finite (drop i ys)) (is_finite (get_or ys i nan)) (all_finite (drop (i + 1) ys)) c.both-ok.result
-          c.loop-i.invariant.1 (finite-from ys i (search rules)) (c.both-ok.ensures ∙ ap (λ (b : Bool). c.loop-i.ok && b) c.finite.ensures),
-    )
+    let i = c.loop-y.y-index in
+    c.loop-y.invariant ∙ finite-more c.loop-y.ok ys i c.loop-y-test.true ∙ ap (λ (b : Bool). (c.loop-y.ok && b) && all_finite (drop (i + 1) ys)) (sym c.finite-ok.ensures)
 
 pub returns : goal.returns
-returns c =
-    let ys = c.args.samples.now in
-    let l = c.loop-i in
-    ends (all_finite ys) l.ok (all_finite (drop l.i ys)) l.invariant.1 (finite-end ys l.i c.loop-i-test.false)
+returns c = sym (c.loop-y.invariant ∙ finite-end c.loop-y.ok c.args.samples.now c.loop-y.y-index c.loop-y-test.false)

@@ -1,14 +1,8 @@
 -- `samples::fill_sent` meets its contract. The loop's invariant: the buffer has the first i LLRs and then what it held. Assumes nothing.
-use mathlib.Core.Path.{◌≡◌}
-use Prim.Native.Nat.{◌≤◌, ◌-◌}
-use lib.ListN.{length}
+use Rattle.std.proofs.Common.{◌≡◌}
 use Rattle.samples.specs.Cases.{sent_llrs}
 use Rattle.samples.proofs.Stores.{Stored}
 use Rattle.samples.proofs.fill_sent.Given as goal
 
 abbrev pub invariant-loop-i : goal.invariant-loop-i
-invariant-loop-i l =
-    (l.i ≤ length l.samples) × (length l.llrs ≡ length l.initial.llrs) × (l.llrs ≡ Stored (sent_llrs l.channel.variance l.samples) l.initial.llrs l.i)
-
-abbrev pub decreases-loop-i : goal.decreases-loop-i
-decreases-loop-i l = length l.samples - l.i
+invariant-loop-i l = l.llrs ≡ Stored (sent_llrs l.channel.variance l.samples) l.initial.llrs l.i

@@ -1,12 +1,13 @@
--- `samples::finite` meets its contract: 1 / 0 is the infinity, as `div` computes. Assumes nothing.
-use lib.Ieee.{of_bits, div, neg}
+-- `samples::finite` meets its contract: a finite float lies strictly between the infinities. Assumes nothing.
+use Rattle.std.proofs.Common.{◌∙◌}
+use lib.Ieee.{of_bits}
 use Rattle.samples.proofs.Inputs.{finite_yes, finite-no}
 use Rattle.samples.proofs.finite.Goals as goal
 
-pub returns-then-x-top : goal.returns-then-x-top
-unfolding of_bits div neg
-returns-then-x-top c = finite_yes c.args.x c.if-x-top.true
+pub returns-then-x : goal.returns-then-x
+unfolding of_bits
+returns-then-x c = finite_yes c.args.x c.if-x.true
 
-pub returns-else-x-top : goal.returns-else-x-top
-unfolding of_bits div neg
-returns-else-x-top c = finite-no c.args.x c.if-x-top.false
+pub returns-else-x : goal.returns-else-x
+unfolding of_bits
+returns-else-x c = c.if-x.false ∙ finite-no c.args.x c.if-x.false

@@ -18,10 +18,10 @@ word_of certain = cond certain (pos mark) (pos 0)
 
 pub message_of_leaves-requires : goal.message_of_leaves-requires
 message_of_leaves-requires c =
-    let left_is : let a = c.args in c.leaf_word.result ≡ leaf a.mask.now a.from = c.leaf_word.ensures ∙ ap word_of c.is_frozen-left.ensures in
-    let right_is : let a = c.args in c.leaf_word-2.result ≡ leaf a.mask.now (a.from + 1) = c.leaf_word-2.ensures ∙ ap word_of c.is_frozen-right.ensures in
+    let left_is : let a = c.args in c.leaf_word.result ≡ leaf a.walk.now.mask.now a.from = c.leaf_word.ensures ∙ ap word_of c.is_frozen-left.ensures in
+    let right_is : let a = c.args in c.leaf_word-2.result ≡ leaf a.walk.now.mask.now (a.from + 1) = c.leaf_word-2.ensures ∙ ap word_of c.is_frozen-right.ensures in
     let stored : let a = c.args in
-    c.fill-2.new.w ≡ leaf_words a.mask.now (leaf_words a.mask.now a.work.now a.from) (a.from + 1) = let a = c.args in
+    c.fill-2.new.w ≡ leaf_words a.walk.now.mask.now (leaf_words a.walk.now.mask.now a.work.now a.from) (a.from + 1) = let a = c.args in
     c.fill-2.ensures
     ∙ ap₂ (λ (w : List ℤ) (z : ℤ). write w (a.from + 1) 1 (λ k. z))
     (c.fill.ensures ∙ ap (λ (z : ℤ). write a.work.now a.from 1 (λ k. z)) (back c.leaf_word.type_inv ∙ left_is))
@@ -29,20 +29,20 @@ message_of_leaves-requires c =
     let a = c.args in
     let e = stored in
     record {
-      places = subst (λ (v : List ℤ). Places a.m a.x a.from 1 (length v)) (sym e) (leaves-fit a.mask.now a.work.now a.m a.x a.from c.requires.places.0);
-      words = subst (λ (v : List ℤ). Words v a.x 2) (sym e) (leaves-list a.mask.now a.work.now a.m a.x a.from c.requires.places.0 c.requires.words);
+      places = subst (λ (v : List ℤ). Places a.m a.x a.from 1 (length v)) (sym e) (leaves-fit a.walk.now.mask.now a.work.now a.m a.x a.from c.requires.places.0);
+      words = subst (λ (v : List ℤ). Words v a.x 2) (sym e) (leaves-list a.walk.now.mask.now a.work.now a.m a.x a.from c.requires.places.0 c.requires.words);
       l_value = (
-        ap (λ (v : List ℤ). word v a.from) e ∙ left-leaf a.mask.now a.work.now a.m a.x a.from c.requires.places.0 ∙ sym (ap word_of c.is_frozen-left.ensures),
-        ap (λ (v : List ℤ). word v (a.from + 1)) e ∙ right-leaf a.mask.now a.work.now a.m a.x a.from c.requires.places.0 ∙ sym (ap word_of c.is_frozen-right.ensures),
+        ap (λ (v : List ℤ). word v a.from) e ∙ left-leaf a.walk.now.mask.now a.work.now a.m a.x a.from c.requires.places.0 ∙ sym (ap word_of c.is_frozen-left.ensures),
+        ap (λ (v : List ℤ). word v (a.from + 1)) e ∙ right-leaf a.walk.now.mask.now a.work.now a.m a.x a.from c.requires.places.0 ∙ sym (ap word_of c.is_frozen-right.ensures),
       );
     }
 
 pub returns : goal.returns
 returns c =
-    let left_is : let a = c.args in c.leaf_word.result ≡ leaf a.mask.now a.from = c.leaf_word.ensures ∙ ap word_of c.is_frozen-left.ensures in
-    let right_is : let a = c.args in c.leaf_word-2.result ≡ leaf a.mask.now (a.from + 1) = c.leaf_word-2.ensures ∙ ap word_of c.is_frozen-right.ensures in
+    let left_is : let a = c.args in c.leaf_word.result ≡ leaf a.walk.now.mask.now a.from = c.leaf_word.ensures ∙ ap word_of c.is_frozen-left.ensures in
+    let right_is : let a = c.args in c.leaf_word-2.result ≡ leaf a.walk.now.mask.now (a.from + 1) = c.leaf_word-2.ensures ∙ ap word_of c.is_frozen-right.ensures in
     let stored : let a = c.args in
-    c.fill-2.new.w ≡ leaf_words a.mask.now (leaf_words a.mask.now a.work.now a.from) (a.from + 1) = let a = c.args in
+    c.fill-2.new.w ≡ leaf_words a.walk.now.mask.now (leaf_words a.walk.now.mask.now a.work.now a.from) (a.from + 1) = let a = c.args in
     c.fill-2.ensures
     ∙ ap₂ (λ (w : List ℤ) (z : ℤ). write w (a.from + 1) 1 (λ k. z))
     (c.fill.ensures ∙ ap (λ (z : ℤ). write a.work.now a.from 1 (λ k. z)) (back c.leaf_word.type_inv ∙ left_is))

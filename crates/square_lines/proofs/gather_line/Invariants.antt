@@ -1,10 +1,5 @@
 -- `square_lines::gather_line` meets its contract. The loop's invariant: the first k elements of the line are read. Assumes nothing.
-use mathlib.Core.Path.{◌≡◌}
-use mathlib.Core.Bool.{Bool}
-use mathlib.Core.List.{List}
-use Prim.Native.Nat.{ℕ, ◌≤◌, ◌-◌}
-use lib.IntN.{ℤ}
-use lib.ListN.{length}
+use Rattle.std.proofs.Common.{◌≡◌, length, Bool, List, ℕ, ℤ}
 use Rattle.model.specs.Square.{place_of}
 use Rattle.model.proofs.Stores.{Stored}
 use Rattle.words.specs.Words.{word}
@@ -15,7 +10,4 @@ abbrev pub element : List ℤ → Bool → ℕ → ℕ → ℕ → ℤ
 element inputs rows N i k = word inputs (place_of (along rows) N i k)
 
 abbrev pub invariant-loop-k : goal.invariant-loop-k
-invariant-loop-k l = (l.k ≤ l.size) × (l.line ≡ Stored (element l.inputs l.rows l.size l.i) l.initial.line l.k) × (length l.line ≡ length l.initial.line)
-
-abbrev pub decreases-loop-k : goal.decreases-loop-k
-decreases-loop-k l = l.size - l.k
+invariant-loop-k l = l.line ≡ Stored (element l.inputs l.rows (length l.initial.line) l.i) l.initial.line l.k

@@ -6,7 +6,7 @@ use lib.ListN.{set}
 use mir.Facts.{to_z-of_z}
 use Rattle.words.specs.Words.{write}
 use Rattle.words.proofs.Store.{store-none, store-more}
-use Rattle.words.proofs.Loops.{none-stored, one-stored, all-stored}
+use Rattle.words.proofs.Loops.{none-stored, one-stored}
 use Rattle.words.proofs.fill.Goals as goal
 
 pub returns-then-s-eq1 : goal.returns-then-s-eq1
@@ -16,15 +16,8 @@ returns-then-s-eq1 c =
     ∙ store-more (pos 0) a.w.now a.w.now a.m 0 a.value (λ j. a.value) (store-none (pos 0) _ _ _) refl
     ∙ ap (λ (n : ℕ). write a.w.now a.m n (λ j. a.value)) (sym c.if-s-eq1.true)
 
-pub returns : goal.returns
-returns c =
-    all-stored c.loop-k.invariant c.loop-k-test.false ∙ ap (λ (z : ℤ). write c.args.w.now c.args.m c.args.s (λ j. z)) (to_z-of_z c.ranges.value)
-
 pub loop-k-init : goal.loop-k-init
 loop-k-init c = none-stored
 
 pub loop-k-preserved : goal.loop-k-preserved
 loop-k-preserved c = one-stored c.loop-k.invariant c.loop-k-test.true refl
-
-pub shape_of-w : goal.shape_of-w
-shape_of-w c = c.loop-k.invariant.long

@@ -1,5 +1,4 @@
 -- `words::load_llrs` meets its contract. The loop's invariant: the first k LLRs are stored. Assumes nothing.
-use Prim.Native.Nat.{◌-◌}
 use lib.ListN.{length}
 use Rattle.words.specs.Words.{word}
 use Rattle.words.proofs.Loops.{Stored}
@@ -7,6 +6,3 @@ use Rattle.words.proofs.load_llrs.Given as goal
 
 abbrev pub invariant-loop-k : goal.invariant-loop-k
 invariant-loop-k l = Stored l.initial.w l.m (length l.llrs) (word l.llrs) l.k l.w
-
-abbrev pub decreases-loop-k : goal.decreases-loop-k
-decreases-loop-k l = length l.llrs - l.k

@@ -1,8 +1,6 @@
--- `erasure_test::rates::float` is safe: a pattern whose exponent field is not all ones is no NaN's. Assumes nothing.
-use lib.Ieee.{nan_bits}
-use borrow.Author.Tests.{ne_eqb}
+-- `erasure_test::rates::float` is safe: a pattern whose size is at most that of infinity is no NaN's. Assumes nothing.
+use Rattle.std.proofs.lemmas.Float.{not_nan_f64_bits}
 use Rattle.erasure_test.proofs.rates.float.Goals as goal
 
 pub float_from_bits-result : goal.float_from_bits-result
-unfolding nan_bits
-float_from_bits-result c = simp (ne_eqb _ _ c.if-bits-eq2047.false) tt
+float_from_bits-result c = search not_nan_f64_bits

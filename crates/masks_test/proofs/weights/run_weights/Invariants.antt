@@ -1,9 +1,6 @@
--- `masks_test::weights::run_weights` is safe and ends. The loop's invariant: no more weights came out right than were tried. Assumes nothing.
-use Rattle.std.proofs.Common.{◌-◌, ◌≤◌}
+-- `masks_test::weights::run_weights` is safe. The loop's invariant: no more weights came out right than were tried. Assumes nothing.
+use Rattle.std.proofs.Common.{◌≤◌}
 use Rattle.masks_test.proofs.weights.run_weights.Given as goal
 
 abbrev pub invariant-loop-i : goal.invariant-loop-i
-invariant-loop-i g l = (l.i ≤ 1024) × (l.right ≤ l.i)
-
-abbrev pub decreases-loop-i : goal.decreases-loop-i
-decreases-loop-i g l = 1024 - l.i
+invariant-loop-i g l = l.right ≤ l.i

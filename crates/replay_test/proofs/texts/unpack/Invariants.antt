@@ -1,9 +1,6 @@
--- `replay_test::texts::unpack` is safe and ends. The loop's invariant: the buffer keeps its length. Assumes nothing.
-use Rattle.std.proofs.Common.{◌≡◌, ◌-◌, length}
+-- `replay_test::texts::unpack` ends: each piece moves the place on. Assumes nothing.
+use Rattle.std.proofs.Common.{length, ◌-◌}
 use Rattle.replay_test.proofs.texts.unpack.Given as goal
-
-abbrev pub invariant-loop-at : goal.invariant-loop-at
-invariant-loop-at l = length l.out ≡ length l.initial.out
 
 abbrev pub decreases-loop-at : goal.decreases-loop-at
 decreases-loop-at l = length l.s - l.at

@@ -1,9 +1,0 @@
--- `erasure_test::calls::all_unfrozen` is safe and ends. The loop's invariant: i is at most the end, which is at most 4112. Assumes nothing.
-use Rattle.std.proofs.Common.{◌-◌, ◌≤◌}
-use Rattle.erasure_test.proofs.calls.all_unfrozen.Given as goal
-
-abbrev pub invariant-loop-i : goal.invariant-loop-i
-invariant-loop-i l = (l.i ≤ l.end) × (l.end ≤ 4112)
-
-abbrev pub decreases-loop-i : goal.decreases-loop-i
-decreases-loop-i l = l.end - l.i

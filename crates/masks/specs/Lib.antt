@@ -1,2 +1,0 @@
--- What the contracts of `masks` cite beside the definitions of masks.
-pub mod Answers

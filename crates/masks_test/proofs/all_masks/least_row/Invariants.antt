@@ -1,9 +1,0 @@
--- `masks_test::all_masks::least_row` is safe and ends. The loop's invariant: i is at most 16. Assumes nothing.
-use Rattle.std.proofs.Common.{◌-◌, ◌≤◌}
-use Rattle.masks_test.proofs.all_masks.least_row.Given as goal
-
-abbrev pub invariant-loop-i : goal.invariant-loop-i
-invariant-loop-i l = l.i ≤ 16
-
-abbrev pub decreases-loop-i : goal.decreases-loop-i
-decreases-loop-i l = 16 - l.i
