@@ -1,3 +1,4 @@
+pub mod Finds
 pub mod Numbers
 pub mod Split
 pub mod Stores

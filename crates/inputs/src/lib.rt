@@ -1,7 +1,7 @@
 // What calls are refused for, and tests of inputs that several calls share.
 #![tactic(auto)]
 
-ghost use Rattle.std.specs.Prelude.{◌≡◌, ℕ, ◌&&◌, ◌≤◌, max, leb, length};
+ghost use Rattle.std.specs.Prelude.{◌≡◌, cond, ℕ, ◌&&◌, ◌≤◌, max, leb, length};
 ghost use Rattle.model.specs.Lists.{at_most, bit};
 ghost use Rattle.model.specs.Encoding.{unfrozen, is_unfrozen, is_known_one};
 ghost use Rattle.model.specs.Refusals.{exponent, max_sweeps, is_llr};
@@ -107,6 +107,14 @@ impl Refusal {
             Refusal::HalfIterations => 23,
         }
     }
+}
+
+// The number of a test that is not passed, and otherwise that of the tests after it. It stays for callers who know refusals by their numbers; the
+// calls of this repository answer a `Refusal`.
+pub fn tested(passed: bool, after: u32, number: u32) -> u32
+    ensures { result ≡ cond passed after number }
+{
+    if passed { after } else { number }
 }
 
 // ---- masks

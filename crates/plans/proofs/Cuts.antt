@@ -10,11 +10,12 @@ use mathlib.Core.List.{List, [], ◌∷◌}
 use borrow.Author.Tests.{eq-eqb, ne_eqb, eqb-true, eqb-false}
 use lib.Dec.{T, eqb, leb, leb→le}
 use lib.ListN.{length, take, drop, get_or, drop_of_length-le, get_or-eq_default}
+use lib.Pow.{pow_pos}
 use lib.Seq.{drop-cons}
 use Rattle.model.specs.Lists.{at_most, bit}
 use Rattle.model.specs.Kinds.{kind_of, is_some}
 use Rattle.model.specs.Plans.{is_cut, no_cut, well_cut, cuts_below}
-use Rattle.model.proofs.Lists.{double, and-true, and_l, and_r, at-most-at}
+use Rattle.model.proofs.Lists.{double, and-true, and_l, and_r, at-most-at, bit-small, cond_both}
 use Rattle.plans.specs.Nodes.{byte_sum}
 
 -- ---- what the check meets on its way from a node down
@@ -55,6 +56,13 @@ module _ (plan : List ℕ) where
           → cond b 1 (cuts_met plan t (2 * p) + cuts_met plan t (2 * p + 1)) ≤ bit b + (cuts_below plan t (2 * p) + cuts_below plan t (2 * p + 1))
       go true l r = omega arith
       go false l r = omega arith
+
+  -- a node of stage t has no more than its leaves
+  pub met-small : (t p : ℕ) → cuts_met plan t p ≤ 2 ^ t
+  unfolding cuts_met
+  met-small zero p = bit-small (is_cut plan p)
+  met-small (suc t) p =
+      cond_both (λ n. n ≤ 2 ^ suc t) (is_cut plan p) (pow_pos (suc t)) (omega (arith, met-small t (2 * p), met-small t (2 * p + 1)))
 
   not_eqb : (b : Bool) → not b ≡ eqb 0 (bit b)
   not_eqb true = refl

@@ -1,17 +1,9 @@
 -- The line feed that ends a line, as std's `position` finds it. Assumes nothing.
-use Rattle.std.proofs.Common.{◌≡◌, ℕ, zero, suc, ◌+◌, ◌≤◌, min, List, [], ◌∷◌, Bool, true, false, cond, not, eqb, ltb, length, take, refl, sym, ap, ◌∙◌, arith, Some, None, length-take}
+use Rattle.std.proofs.Common.{◌≡◌, ℕ, zero, suc, min, List, [], ◌∷◌, Bool, true, false, cond, eqb, ltb, length, take, refl, sym, ap, ◌∙◌, arith, Some, None, length-take}
 use Rattle.std.specs.List.{position, position_or_len}
 use borrow.Author.Tests.{lt-ltb, le-ltb, ltb-true, ltb-false}
 use Rattle.fields.specs.Grammar.{first_of, ended, fields, malformed, max_line, read_fields, read_line}
-
-first-is : (b : ℕ) (s : List ℕ) → position_or_len (λ x. eqb x b) s ≡ first_of b s
-unfolding first_of
-first-is b [] = refl
-first-is b (x ∷ s) = go (eqb x b) (first-is b s)
-  where
-    go : (t : Bool) → position_or_len (λ x. eqb x b) s ≡ first_of b s → cond (not t) (1 + position_or_len (λ x. eqb x b) s) 0 ≡ cond t 0 (suc (first_of b s))
-    go true h = refl
-    go false h = omega arith
+use Rattle.fields.proofs.Finds.{first-is, first-most}
 
 -- in the front of a list
 first-take : (b m : ℕ) (s : List ℕ) → first_of b (take m s) ≡ min m (first_of b s)
@@ -21,15 +13,6 @@ first-take b (suc m) [] = omega arith
 first-take b (suc m) (x ∷ s) = go (eqb x b) (first-take b m s)
   where
     go : (t : Bool) → first_of b (take m s) ≡ min m (first_of b s) → cond t 0 (suc (first_of b (take m s))) ≡ min (suc m) (cond t 0 (suc (first_of b s)))
-    go true h = omega arith
-    go false h = omega arith
-
-first-most : (b : ℕ) (s : List ℕ) → first_of b s ≤ length s
-unfolding first_of
-first-most b [] = omega arith
-first-most b (x ∷ s) = go (eqb x b) (first-most b s)
-  where
-    go : (t : Bool) → first_of b s ≤ length s → cond t 0 (suc (first_of b s)) ≤ suc (length s)
     go true h = omega arith
     go false h = omega arith
 

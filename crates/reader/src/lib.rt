@@ -81,11 +81,11 @@ fn read_parts(line: &[u8], llrs: &mut [i16]) -> Option<Parts>
     ensures fronts { IfSome result (λ p. Fronts line.now llrs.old llrs.new p.digits p.in_range) }
 {
     let (mask, sweeps) = first_fields(line)?;
-    let sweeps = read_number(sweeps)?;
-    let read = read_llrs(line, llrs)?;
     if !digits_only(mask) {
         return None;
     }
+    let sweeps = read_number(sweeps)?;
+    let read = read_llrs(line, llrs)?;
     Some(Parts {
         digits: mask.len(),
         bytes: at_most(mask, b'2'),

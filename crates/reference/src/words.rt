@@ -6,16 +6,16 @@ use crate::values::UNDECIDED;
 use test_tools::buffers::{Bytes, same_front};
 use test_tools::numbers::{bit_if, choose_byte, one_if};
 
-// Bit j of the product: the parity of the bits, odd bytes, at the positions that have all ones of j.
+// Bit j of the product: the parity of the bits, odd bytes, at the positions that have all ones of j. A turn has no branch; with
+// `filter` and `count`, tried, encode_test takes three times as long.
 fn column(bits: &[u8; 4112], n: usize, j: usize) -> u8
     requires { n ≤ 1024 }
 {
-    let ones = bits[..n]
-        .iter()
-        .enumerate()
-        .filter(|(i, bit)| *i & j == j && **bit % 2 == 1)
-        .count();
-    bit_if(ones % 2 == 1)
+    let mut odd = false;
+    for (i, bit) in bits[..n].iter().enumerate() {
+        odd ^= (i & j == j) & (*bit % 2 == 1);
+    }
+    bit_if(odd)
 }
 
 // The first n bits times the matrix, to the front of `over`.

@@ -12,10 +12,15 @@ pub fn end_line(rt: &impl Print) -> io::Result<()> {
     rt.write_all(b"\n")
 }
 
+// A name of a text, without the '|' that ends it. A text that ends with a '|', or is empty, has no name behind that.
+fn without_bar(name: &[u8]) -> &[u8] {
+    name.strip_suffix(b"|").unwrap_or(name)
+}
+
 // The numbers, each after its name, as many as there are names.
 pub fn print_values(rt: &impl Print, names: &[u8], values: [usize; 8]) -> io::Result<()> {
-    for (name, value) in names.split(|b| *b == b'|').zip(values) {
-        print_number(rt, name, value)?;
+    for (name, value) in names.split_inclusive(|b| *b == b'|').zip(values) {
+        print_number(rt, without_bar(name), value)?;
     }
     Ok(())
 }
@@ -41,8 +46,8 @@ pub fn begin_report(
     right: usize,
     all: usize,
 ) -> io::Result<()> {
-    if let Some(name) = names.split(|b| *b == b'|').nth(k) {
-        print_number(rt, name, right)?;
+    if let Some(name) = names.split_inclusive(|b| *b == b'|').nth(k) {
+        print_number(rt, without_bar(name), right)?;
     }
     print_number(rt, b" of ", all)
 }

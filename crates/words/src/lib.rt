@@ -141,10 +141,13 @@ pub fn load_llrs(w: &mut [i32], m: usize, llrs: &[i16])
     }
 }
 
-// out[m + k] = w[x + k]
+// out[m + k] = w[x + k]. With `copy_from_slice` here the archive for C asks for memmove, which it needs nowhere else.
 pub fn copy_words(w: &[i32], x: usize, out: &mut [i32], m: usize, count: usize)
     requires { (x + count ≤ length w.now) × (m + count ≤ length out.old) }
     ensures { out.new ≡ write out.old m count (λ k. word w.now (x + k)) }
 {
-    out[m..m + count].copy_from_slice(&w[x..x + count]);
+    for k in 0..count {
+        let v = w[x + k];
+        out[m + k] = v;
+    }
 }

@@ -131,14 +131,14 @@ returns-then-mask-m-ne-UNFROZEN-3 c =
 pub returns-then-m-lt8 : goal.returns-then-m-lt8
 returns-then-m-lt8 c =
     small c.args.mask.now c.requires c.if-mask-m-ne-UNFROZEN.false c.if-mask-eq-UNFROZEN.false c.if-mask-eq-UNFROZEN-2.false c.if-mask-m-ne-UNFROZEN-2.false
-    c.if-mask-eq-UNFROZEN-3.false c.if-mask-m-ne-UNFROZEN-3.false c.if-m-lt8.true
+    c.if-mask-eq-UNFROZEN-3.false c.if-mask-m-ne-UNFROZEN-3.false (omega (arith, c.if-m-lt8.true))
 
 pub returns-then-mask-m-ne-UNFROZEN-4 : goal.returns-then-mask-m-ne-UNFROZEN-4
 returns-then-mask-m-ne-UNFROZEN-4 c =
     two-sums c.args.mask.now c.requires c.if-mask-m-ne-UNFROZEN.false c.if-mask-eq-UNFROZEN.false c.if-mask-eq-UNFROZEN-2.false c.if-mask-m-ne-UNFROZEN-2.false
-    c.if-mask-eq-UNFROZEN-3.false c.if-mask-m-ne-UNFROZEN-3.false c.if-m-lt8.false c.if-mask-m-ne-UNFROZEN-4.true
+    c.if-mask-eq-UNFROZEN-3.false c.if-mask-m-ne-UNFROZEN-3.false (omega (arith, c.if-m-lt8.false)) c.if-mask-m-ne-UNFROZEN-4.true
 
 pub returns-else-mask-m-ne-UNFROZEN-4 : goal.returns-else-mask-m-ne-UNFROZEN-4
 returns-else-mask-m-ne-UNFROZEN-4 c =
     two-boxes c.args.mask.now c.requires c.if-mask-m-ne-UNFROZEN.false c.if-mask-eq-UNFROZEN.false c.if-mask-eq-UNFROZEN-2.false c.if-mask-m-ne-UNFROZEN-2.false
-    c.if-mask-eq-UNFROZEN-3.false c.if-mask-m-ne-UNFROZEN-3.false c.if-m-lt8.false c.if-mask-m-ne-UNFROZEN-4.false
+    c.if-mask-eq-UNFROZEN-3.false c.if-mask-m-ne-UNFROZEN-3.false (omega (arith, c.if-m-lt8.false)) c.if-mask-m-ne-UNFROZEN-4.false
